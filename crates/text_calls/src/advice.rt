@@ -2,7 +2,7 @@
 
 use call_rows::{Part, call_of, list_at, no_call, number_at, port_at, texts_at};
 use do_advice::{Watched, push_nodes, push_raised, push_unheard};
-use do_base::{CallList, MemSink, NodeId, Peers, Text, Value, Values, write_all};
+use do_base::{CallList, MemSink, NodeId, Peers, PutFail, Text, Texts, Value, Values, write_all};
 use std::alloc::Global;
 use std::test::Fail;
 
@@ -38,13 +38,34 @@ fn node_at(args: &Values, at: usize) -> Result<NodeId, Fail> {
     Ok(NodeId::new(port_at(args, at)?).ok_or("no port")?)
 }
 
-/// The nodes of a list of ports.
-fn nodes_in(ports: &Values) -> Result<Peers, Fail> {
-    let mut nodes = Peers::new(ports.allocator());
+/// Adds the nodes of a list of ports.
+fn add_nodes(nodes: &mut Peers, ports: &Values) -> Result<(), Fail> {
     for at in 0..ports.len() {
         nodes.push(node_at(ports, at)?)?;
     }
+    Ok(())
+}
+
+/// The nodes of a list of ports.
+fn nodes_in(ports: &Values) -> Result<Peers, Fail> {
+    let mut nodes = Peers::new(ports.allocator());
+    add_nodes(&mut nodes, ports)?;
     Ok(nodes)
+}
+
+/// The line of the nodes of a world, where a port is none of theirs.
+fn line_of_nodes(alloc: Global, own: NodeId, nodes: &Peers) -> Result<Value, Fail> {
+    let mut line = Text::new(alloc);
+    push_nodes(&mut line, own, nodes.as_slice())?;
+    Ok(Value::Text(line))
+}
+
+/// Writes what comes in these pieces.
+fn write_pieces(out: &mut Watched<MemSink>, pieces: &Texts) -> Result<(), PutFail> {
+    for piece in pieces.as_slice() {
+        write_all(out, piece.as_slice())?;
+    }
+    Ok(())
 }
 
 impl AdviceCalls {
@@ -58,9 +79,7 @@ impl AdviceCalls {
         let pieces = texts_at(args, 0)?;
         let sink = MemSink::new(self.alloc, CallList::new(self.alloc))?;
         let mut out = Watched::new(sink, is_record);
-        for piece in pieces.as_slice() {
-            write_all(&mut out, piece.as_slice())?;
-        }
+        write_pieces(&mut out, &pieces)?;
         Ok(Value::Num(i64::try_from(out.raised())?))
     }
 
@@ -68,9 +87,7 @@ impl AdviceCalls {
     fn nodes(&self, args: &Values) -> Result<Value, Fail> {
         let own = node_at(args, 0)?;
         let nodes = nodes_in(list_at(args, 1)?)?;
-        let mut line = Text::new(self.alloc);
-        push_nodes(&mut line, own, nodes.as_slice())?;
-        Ok(Value::Text(line))
+        line_of_nodes(self.alloc, own, &nodes)
     }
 
     /// The line of a port that is taken, or at which nothing can be heard.

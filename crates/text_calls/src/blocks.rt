@@ -9,9 +9,9 @@ use call_rows::{Part, call_of, copy_at, object_at, text_at};
 use do_base::{Exc, Items, Shown, Text, Value, Values};
 use do_class::{ClassTable, Methods, Slot, Slots};
 use do_lines::{check_text, line_text};
-use do_sched::read_schedule;
+use do_sched::{Lines, read_schedule};
 use do_trace::{Outcome, Snapshot};
-use std::alloc::Global;
+use std::alloc::{AllocError, Global};
 use std::test::Fail;
 
 /// What a row calls.
@@ -50,24 +50,43 @@ pub(crate) struct BlockCalls {
     listed: Snapshot,
 }
 
-/// The block of the line of a schedule that came to this.
-fn block(alloc: Global, args: &Values, outcome: &Outcome) -> Result<Value, Fail> {
-    let line = text_at(args, 0)?;
+/// A schedule of this line alone.
+fn schedule_of(alloc: Global, line: &Text) -> Result<Text, AllocError> {
     let mut schedule = Text::from_slice(alloc, b"schedule 2\n")?;
     schedule.push_bytes(line.as_slice())?;
     schedule.push_bytes(b"\nend\n")?;
-    let lines = read_schedule(alloc, schedule.as_slice())?;
+    Ok(schedule)
+}
+
+/// The block of the first of these lines, which came to this.
+fn first_block(alloc: Global, lines: &Lines, outcome: &Outcome) -> Result<Value, Fail> {
     let line = lines.first().ok_or("no line")?;
     Ok(Value::Text(line_text(alloc, line, outcome)?))
 }
 
+/// The block of the line of a schedule that came to this.
+fn block(alloc: Global, args: &Values, outcome: &Outcome) -> Result<Value, Fail> {
+    let schedule = schedule_of(alloc, text_at(args, 0)?)?;
+    let lines = read_schedule(alloc, schedule.as_slice())?;
+    first_block(alloc, &lines, outcome)
+}
+
+/// A slot of a name, which holds what is not copied with its object.
+fn slot(alloc: Global, name: &[u8]) -> Result<Slot, AllocError> {
+    let name = Text::from_slice(alloc, name)?;
+    Ok(Slot { name, copy: false })
+}
+
+/// The slots `a` and `b`.
+fn pair_slots(alloc: Global) -> Result<Slots, AllocError> {
+    let first = slot(alloc, b"a")?;
+    let second = slot(alloc, b"b")?;
+    Ok(Slots::from_vec(vec![in alloc; first, second]?))
+}
+
 /// A table of one class, `Pair`, with the slots `a` and `b`.
 fn pair_table(alloc: Global) -> Result<ClassTable, Fail> {
-    let mut slots = Slots::new(alloc);
-    for name in [b"a", b"b"] {
-        let name = Text::from_slice(alloc, name)?;
-        slots.push(Slot { name, copy: false })?;
-    }
+    let slots = pair_slots(alloc)?;
     let mut table = ClassTable::new(alloc);
     let name = Text::from_slice(alloc, b"Pair")?;
     table.add_class(name, slots, Methods::new(alloc))?;

@@ -43,15 +43,34 @@ fn behind(alloc: Global, header: &[u8], rest: &Text) -> Result<Text, AllocError>
     Ok(text)
 }
 
-/// A whole schedule of these lines.
-fn whole(alloc: Global, lines: &Lines) -> Result<Text, AllocError> {
-    let mut out = Text::from_slice(alloc, b"schedule 2\n")?;
+/// Adds these lines, and the line of the end.
+fn push_lines(out: &mut Text, lines: &Lines) -> Result<(), AllocError> {
     for line in lines.as_slice() {
-        push_line(&mut out, line)?;
+        push_line(out, line)?;
         out.push(b'\n')?;
     }
-    out.push_bytes(b"end\n")?;
-    Ok(out)
+    out.push_bytes(b"end\n")
+}
+
+/// A whole schedule of these lines.
+fn whole(alloc: Global, lines: &Lines) -> Result<Value, Fail> {
+    let mut out = Text::from_slice(alloc, b"schedule 2\n")?;
+    push_lines(&mut out, lines)?;
+    Ok(Value::Text(out))
+}
+
+/// Adds a line that starts a method with a text of these letters, and the line of the end.
+fn push_start(out: &mut Text, letters: &[u8]) -> Result<(), AllocError> {
+    out.push_bytes(b"\nstart 7001 go: \"")?;
+    out.push_bytes(letters)?;
+    out.push_bytes(b"\"\nend\n")
+}
+
+/// A schedule with such a line behind its first one.
+fn started(alloc: Global, header: &[u8], letters: &[u8]) -> Result<Text, AllocError> {
+    let mut text = Text::from_slice(alloc, header)?;
+    push_start(&mut text, letters)?;
+    Ok(text)
 }
 
 /// How many lines a schedule has, or its first fault, printed.
@@ -71,7 +90,7 @@ impl ScheduleCalls {
     /// Reads a schedule, and prints it again.
     fn again(&self, text: &Text) -> Result<Value, Fail> {
         match read_schedule(self.alloc, text.as_slice()) {
-            Ok(lines) => Ok(Value::Text(whole(self.alloc, &lines)?)),
+            Ok(lines) => whole(self.alloc, &lines),
             Err(fault) => printed(self.alloc, fault),
         }
     }
@@ -107,11 +126,7 @@ impl ScheduleCalls {
     fn started(&self, header: &[u8], args: &Values) -> Result<Text, Fail> {
         let letters = usize::try_from(number_at(args, 0)?)?;
         let letters = vec![in self.alloc; b'a'; letters]?;
-        let mut text = Text::from_slice(self.alloc, header)?;
-        text.push_bytes(b"\nstart 7001 go: \"")?;
-        text.push_bytes(&letters)?;
-        text.push_bytes(b"\"\nend\n")?;
-        Ok(text)
+        Ok(started(self.alloc, header, &letters)?)
     }
 
     /// How many lines a schedule with such a start has, or its first fault, printed.

@@ -165,10 +165,10 @@ impl ScriptCalls {
 
     /// Sets locals, takes away the handler, writes slots, and goes on at a place.
     fn make_change(&mut self, args: &Values) -> Result<Value, Fail> {
-        let before = self.now()?;
         let pc = u32::from(count_at(args, 2)?);
         let sets = sets_of(list_at(args, 0)?)?;
         let writes = writes_of(list_at(args, 1)?)?;
+        let before = self.now()?;
         let change = Change::Slots {
             sets,
             handler: None,

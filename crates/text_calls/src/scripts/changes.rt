@@ -2,7 +2,7 @@
 
 use call_rows::{copy_at, count_at, count_value, local_at, word_alone, word_with_two};
 use do_base::{Value, Values, copy_value};
-use do_behave::{Handler, Invocation, LocalSet, LocalSets, Write, Writes};
+use do_behave::{Frame, Handler, Invocation, LocalSet, LocalSets, Write, Writes};
 use std::alloc::{AllocError, Global};
 use std::test::Fail;
 
@@ -35,12 +35,18 @@ pub(crate) fn add_slots(changed: &mut Values, before: &Values, after: &Values) -
     add_changed(changed, b"slot", before, after)
 }
 
+/// Adds the values of locals.
+fn push_values(values: &mut Values, locals: &Frame) -> Result<(), AllocError> {
+    for held in locals.as_slice() {
+        values.push(copy_value(held.value())?)?;
+    }
+    Ok(())
+}
+
 /// The values of the locals.
 pub(crate) fn values_of(inv: &Invocation) -> Result<Values, AllocError> {
     let mut values = Values::new(inv.locals.allocator());
-    for held in inv.locals.as_slice() {
-        values.push(copy_value(held.value())?)?;
-    }
+    push_values(&mut values, &inv.locals)?;
     Ok(values)
 }
 
@@ -76,26 +82,38 @@ pub(crate) fn add_handler(
     Ok(changed.push(words)?)
 }
 
-/// The locals to be set that a list of pairs names.
-pub(crate) fn sets_of(pairs: &Values) -> Result<LocalSets, Fail> {
-    let mut sets = LocalSets::new(pairs.allocator());
+/// Adds the locals to be set that a list of pairs names.
+fn push_sets(sets: &mut LocalSets, pairs: &Values) -> Result<(), Fail> {
     for pair in pairs.as_slice() {
         let pair = pair.items().ok_or("no pair")?;
         let local = local_at(pair, 0)?;
         let value = copy_at(pair, 1)?;
         sets.push(LocalSet { local, value })?;
     }
+    Ok(())
+}
+
+/// The locals to be set that a list of pairs names.
+pub(crate) fn sets_of(pairs: &Values) -> Result<LocalSets, Fail> {
+    let mut sets = LocalSets::new(pairs.allocator());
+    push_sets(&mut sets, pairs)?;
     Ok(sets)
 }
 
-/// The slots to be written that a list of pairs names.
-pub(crate) fn writes_of(pairs: &Values) -> Result<Writes, Fail> {
-    let mut writes = Writes::new(pairs.allocator());
+/// Adds the slots to be written that a list of pairs names.
+fn push_writes(writes: &mut Writes, pairs: &Values) -> Result<(), Fail> {
     for pair in pairs.as_slice() {
         let pair = pair.items().ok_or("no pair")?;
         let slot = usize::from(count_at(pair, 0)?);
         let value = copy_at(pair, 1)?;
         writes.push(Write { slot, value })?;
     }
+    Ok(())
+}
+
+/// The slots to be written that a list of pairs names.
+pub(crate) fn writes_of(pairs: &Values) -> Result<Writes, Fail> {
+    let mut writes = Writes::new(pairs.allocator());
+    push_writes(&mut writes, pairs)?;
     Ok(writes)
 }

@@ -53,6 +53,13 @@ fn instruction_value(alloc: Global, code: &Code, place: usize) -> Result<Value, 
     }
 }
 
+/// Adds a line with a text in quotes of these letters.
+fn push_quoted(line: &mut Text, letters: &[u8]) -> Result<(), AllocError> {
+    line.push_bytes(b"text l0 \"")?;
+    line.push_bytes(letters)?;
+    line.push(b'"')
+}
+
 /// Two counts.
 fn counts(alloc: Global, first: usize, second: usize) -> Result<Value, Fail> {
     let (first, second) = (count_value(first)?, count_value(second)?);
@@ -122,9 +129,8 @@ impl CodeCalls {
     /// A line with a text in quotes of as many letters.
     fn quoted(&self, count: i64) -> Result<Text, Fail> {
         let letters = vec![in self.alloc; b'a'; usize::try_from(count)?]?;
-        let mut line = Text::from_slice(self.alloc, b"text l0 \"")?;
-        line.push_bytes(&letters)?;
-        line.push(b'"')?;
+        let mut line = Text::new(self.alloc);
+        push_quoted(&mut line, &letters)?;
         Ok(line)
     }
 

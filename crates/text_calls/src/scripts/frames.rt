@@ -10,12 +10,18 @@ use std::test::Fail;
 /// The handler of each invocation.
 const HANDLER: Handler = Handler { into: 14, pc: 2 };
 
+/// Adds sixteen locals, which hold the numbers from 100 on.
+fn push_locals(locals: &mut Frame) -> Result<(), AllocError> {
+    for number in 100..116i64 {
+        locals.push(Held::new(Value::Num(number)))?;
+    }
+    Ok(())
+}
+
 /// Sixteen locals: the one at place k holds 100 + k.
 fn locals(alloc: Global) -> Result<Frame, AllocError> {
     let mut locals = Frame::new(alloc);
-    for k in 100..116i64 {
-        locals.push(Held::new(Value::Num(k)))?;
-    }
+    push_locals(&mut locals)?;
     Ok(locals)
 }
 

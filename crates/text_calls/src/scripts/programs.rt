@@ -1,5 +1,7 @@
 //! Programs of one method, from its text.
 
+ghost use Rattle.std.specs.Prelude.{◌≡◌, ◌<◌, [], ◌∷◌, ◌++◌, length, OnOk};
+
 use crate::scripts::names::names;
 use do_base::Text;
 use do_behave::{ClassCodes, Codes, Program};
@@ -8,13 +10,22 @@ use do_script::{Code, assemble};
 use std::alloc::{AllocError, Global};
 use std::test::Fail;
 
+/// Adds a class of a name, which has nothing.
+fn add_empty(alloc: Global, table: &mut ClassTable, name: &[u8]) -> Result<(), Fail>
+    requires { length table.old < 256 }
+    ensures { OnOk result (table.new
+        ≡ table.old ++ record { name = name.now; slots = []; methods = [] } ∷ []) }
+{
+    let name = Text::from_slice(alloc, name)?;
+    table.add_class(name, Slots::new(alloc), Methods::new(alloc))?;
+    Ok(())
+}
+
 /// Two classes, `First` and `Second`, of which a program needs to know that they are there.
 pub(crate) fn two_classes(alloc: Global) -> Result<ClassTable, Fail> {
     let mut table = ClassTable::new(alloc);
-    let first = Text::from_slice(alloc, b"First")?;
-    table.add_class(first, Slots::new(alloc), Methods::new(alloc))?;
-    let second = Text::from_slice(alloc, b"Second")?;
-    table.add_class(second, Slots::new(alloc), Methods::new(alloc))?;
+    add_empty(alloc, &mut table, b"First")?;
+    add_empty(alloc, &mut table, b"Second")?;
     Ok(table)
 }
 

@@ -33,14 +33,19 @@ pub(crate) struct CommandCalls {
     alloc: Global,
 }
 
-/// The words of a line, of which a space stands between each two; none in an empty line.
+/// Adds the words of a line, of which a space stands between each two.
+fn push_words(words: &mut Texts, line: &[u8]) -> Result<(), AllocError> {
+    for word in line.split(|byte| *byte == b' ') {
+        words.push(Text::from_slice(words.allocator(), word)?)?;
+    }
+    Ok(())
+}
+
+/// The words of a line, none in an empty one.
 fn words(alloc: Global, line: &[u8]) -> Result<Texts, AllocError> {
     let mut words = Items::new(alloc);
-    if line.is_empty() {
-        return Ok(words);
-    }
-    for word in line.split(|byte| *byte == b' ') {
-        words.push(Text::from_slice(alloc, word)?)?;
+    if !line.is_empty() {
+        push_words(&mut words, line)?;
     }
     Ok(words)
 }

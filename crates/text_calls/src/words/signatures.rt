@@ -4,11 +4,21 @@ use call_rows::{
     Part, call_of, count_at, count_value, list_at, no_call, printed, text_at, triple_value,
     value_at,
 };
-use do_base::{Value, Values};
+use do_base::{Text, Value, Values};
 use do_native_acts::as_number;
-use do_sig::{EncFault, Encoding, Scalar, Signature};
+use do_sig::{Encoding, Scalar, Signature};
 use std::alloc::Global;
 use std::test::Fail;
+
+/// What a signature is asked.
+#[derive(Clone, Copy)]
+enum Question {
+    Args,
+    Passing,
+    Result,
+    ArgsFit,
+    InputsFit,
+}
 
 /// What a row calls.
 #[derive(Clone, Copy)]
@@ -17,11 +27,7 @@ enum Call {
     Signature,
     ResultFits,
     Simple,
-    Args,
-    Passing,
-    Result,
-    ArgsFit,
-    InputsFit,
+    Ask(Question),
 }
 
 /// The words of the calls.
@@ -30,11 +36,11 @@ const CALLS: [(&[u8], Call); 9] = [
     (b"signature", Call::Signature),
     (b"result_fits", Call::ResultFits),
     (b"simple", Call::Simple),
-    (b"args", Call::Args),
-    (b"passing", Call::Passing),
-    (b"result", Call::Result),
-    (b"args_fit", Call::ArgsFit),
-    (b"inputs_fit", Call::InputsFit),
+    (b"args", Call::Ask(Question::Args)),
+    (b"passing", Call::Ask(Question::Passing)),
+    (b"result", Call::Ask(Question::Result)),
+    (b"args_fit", Call::Ask(Question::ArgsFit)),
+    (b"inputs_fit", Call::Ask(Question::InputsFit)),
 ];
 
 /// The readers of encodings and signatures, and what a signature tells.
@@ -49,96 +55,114 @@ fn flags(alloc: Global, first: bool, second: bool, third: bool) -> Result<Value,
     triple_value(alloc, first, second, third)
 }
 
+/// An encoding, printed.
+fn print_encoding(alloc: Global, encoding: &Encoding) -> Result<Value, Fail> {
+    Ok(Value::Text(encoding.print(alloc)?))
+}
+
+/// A signature, printed.
+fn print_signature(alloc: Global, signature: &Signature) -> Result<Value, Fail> {
+    Ok(Value::Text(signature.print(alloc)?))
+}
+
+/// What a signature says of an argument: whether it goes in, comes out and is copied.
+fn passing(alloc: Global, signature: &Signature, args: &Values) -> Result<Value, Fail> {
+    let k = usize::from(count_at(args, 1)?);
+    if k >= signature.args() {
+        return Err(Fail::from("no argument"));
+    }
+    let qualifier = signature.qualifier(k);
+    flags(
+        alloc,
+        qualifier.goes_in,
+        qualifier.comes_out,
+        qualifier.copy,
+    )
+}
+
+/// What a signature says of its result: whether it is copied, not waited for, and void.
+fn result(alloc: Global, signature: &Signature) -> Result<Value, Fail> {
+    flags(
+        alloc,
+        signature.result_copy(),
+        signature.oneway(),
+        signature.result_is_void(),
+    )
+}
+
+/// Whether values fit a signature as its arguments.
+fn args_fit(signature: &Signature, args: &Values) -> Result<Value, Fail> {
+    Ok(as_number(signature.args_fit(list_at(args, 1)?)))
+}
+
+/// Whether those of its arguments that go in fit.
+fn inputs_fit(signature: &Signature, args: &Values) -> Result<Value, Fail> {
+    Ok(as_number(signature.inputs_fit(list_at(args, 1)?)))
+}
+
+/// What a signature answers.
+fn answer(
+    alloc: Global,
+    signature: &Signature,
+    question: Question,
+    args: &Values,
+) -> Result<Value, Fail> {
+    match question {
+        Question::Args => count_value(signature.args()),
+        Question::Passing => passing(alloc, signature, args),
+        Question::Result => result(alloc, signature),
+        Question::ArgsFit => args_fit(signature, args),
+        Question::InputsFit => inputs_fit(signature, args),
+    }
+}
+
+/// The types of a method without arguments that gives the type at the first place.
+fn types_giving(args: &Values) -> Result<Text, Fail> {
+    let mut types = text_at(args, 0)?.clone()?;
+    types.push_bytes(b"@:")?;
+    Ok(types)
+}
+
 impl SignatureCalls {
     /// Calls that take memory here.
     pub(crate) fn new(alloc: Global) -> SignatureCalls {
         SignatureCalls { alloc }
     }
 
-    /// The signature at the first place.
-    fn signature(&self, args: &Values) -> Result<Signature, Fail> {
-        Ok(Signature::read(self.alloc, text_at(args, 0)?.as_slice())?)
-    }
-
     /// An encoding printed again, or why there is none, printed.
     fn encoding(&self, args: &Values) -> Result<Value, Fail> {
-        let text = text_at(args, 0)?;
-        match Encoding::read(self.alloc, text.as_slice()) {
-            Ok(encoding) => Ok(Value::Text(encoding.print(self.alloc)?)),
+        match Encoding::read(self.alloc, text_at(args, 0)?.as_slice()) {
+            Ok(encoding) => print_encoding(self.alloc, &encoding),
             Err(fault) => printed(self.alloc, fault),
         }
     }
 
     /// A signature printed again, or why there is none, printed.
     fn printed_again(&self, args: &Values) -> Result<Value, Fail> {
-        let text = text_at(args, 0)?;
-        match Signature::read(self.alloc, text.as_slice()) {
-            Ok(signature) => Ok(Value::Text(signature.print(self.alloc)?)),
+        match Signature::read(self.alloc, text_at(args, 0)?.as_slice()) {
+            Ok(signature) => print_signature(self.alloc, &signature),
             Err(fault) => printed(self.alloc, fault),
         }
-    }
-
-    /// The signature of a method without arguments that gives the type at the first place.
-    fn giving(&self, args: &Values) -> Result<Signature, Fail> {
-        let mut text = text_at(args, 0)?.clone()?;
-        text.push_bytes(b"@:")?;
-        Ok(Signature::read(self.alloc, text.as_slice())?)
     }
 
     /// Whether a value fits the type at the first place as a result.
     fn result_fits(&self, args: &Values) -> Result<Value, Fail> {
         let value = value_at(args, 1)?;
-        Ok(as_number(self.giving(args)?.result_fits(value)))
-    }
-
-    /// What a signature says of an argument: whether it goes in, comes out and is copied.
-    fn passing(&self, args: &Values) -> Result<Value, Fail> {
-        let k = usize::from(count_at(args, 1)?);
-        let signature = self.signature(args)?;
-        if k >= signature.args() {
-            return Err(Fail::from("no argument"));
-        }
-        let qualifier = signature.qualifier(k);
-        flags(
-            self.alloc,
-            qualifier.goes_in,
-            qualifier.comes_out,
-            qualifier.copy,
-        )
-    }
-
-    /// What a signature says of its result: whether it is copied, not waited for, and void.
-    fn result(&self, args: &Values) -> Result<Value, Fail> {
-        let signature = self.signature(args)?;
-        flags(
-            self.alloc,
-            signature.result_copy(),
-            signature.oneway(),
-            signature.result_is_void(),
-        )
+        let types = types_giving(args)?;
+        let signature = Signature::read(self.alloc, types.as_slice())?;
+        Ok(as_number(signature.result_fits(value)))
     }
 
     /// A signature made by hand, which takes a number of 64 bits and gives nothing.
     fn simple(&self) -> Result<Value, Fail> {
         let signature = Signature::simple(self.alloc, None, &[Scalar::LongLong])?;
-        Ok(Value::Text(signature.print(self.alloc)?))
+        print_signature(self.alloc, &signature)
     }
 
-    /// How many arguments a signature has.
-    fn count(&self, args: &Values) -> Result<Value, Fail> {
-        count_value(self.signature(args)?.args())
-    }
-
-    /// Whether values fit a signature as its arguments.
-    fn args_fit(&self, args: &Values) -> Result<Value, Fail> {
-        let values = list_at(args, 1)?;
-        Ok(as_number(self.signature(args)?.args_fit(values)))
-    }
-
-    /// Whether those of its arguments that go in fit.
-    fn inputs_fit(&self, args: &Values) -> Result<Value, Fail> {
-        let values = list_at(args, 1)?;
-        Ok(as_number(self.signature(args)?.inputs_fit(values)))
+    /// What the signature at the first place answers.
+    fn ask(&self, question: Question, args: &Values) -> Result<Value, Fail> {
+        let signature = Signature::read(self.alloc, text_at(args, 0)?.as_slice())?;
+        answer(self.alloc, &signature, question, args)
     }
 }
 
@@ -149,11 +173,7 @@ impl Part for SignatureCalls {
             Some(Call::Signature) => self.printed_again(args),
             Some(Call::ResultFits) => self.result_fits(args),
             Some(Call::Simple) => self.simple(),
-            Some(Call::Args) => self.count(args),
-            Some(Call::Passing) => self.passing(args),
-            Some(Call::Result) => self.result(args),
-            Some(Call::ArgsFit) => self.args_fit(args),
-            Some(Call::InputsFit) => self.inputs_fit(args),
+            Some(Call::Ask(question)) => self.ask(question, args),
             None => no_call(),
         }
     }

@@ -88,6 +88,14 @@ fn item_kind(word: &[u8]) -> ItemKind {
     }
 }
 
+/// Adds the keys that these texts are.
+fn push_keys<'a>(keys: &mut Vec<&'a str>, texts: &'a Values) -> Result<(), Fail> {
+    for at in 0..texts.len() {
+        keys.push(key_of(text_at(texts, at)?)?)?;
+    }
+    Ok(())
+}
+
 impl DocumentCalls {
     /// An empty document, no classes, and nothing around texts.
     pub(crate) fn new(alloc: Global) -> Result<DocumentCalls, Fail> {
@@ -149,9 +157,7 @@ impl DocumentCalls {
     /// Whether all keys of the document are among these.
     fn known_keys(&self, texts: &Values) -> Result<Value, Fail> {
         let mut keys = Vec::new(self.alloc);
-        for at in 0..texts.len() {
-            keys.push(key_of(text_at(texts, at)?)?)?;
-        }
+        push_keys(&mut keys, texts)?;
         let found = known_keys(self.alloc, &self.document, Place::Top, keys.as_slice());
         outcome(self.alloc, b"known", found)
     }

@@ -1,18 +1,11 @@
 //! Texts that rows put together.
 
+use crate::repeated::push_times;
 use call_rows::{count_at, text_at};
 use do_base::{Text, Value, Values};
 use do_grammar::push_dec;
 use std::alloc::AllocError;
 use std::test::Fail;
-
-/// Adds a text as many times.
-fn push_times(out: &mut Text, text: &Text, count: u16) -> Result<(), AllocError> {
-    for _time in 0..count {
-        out.push_bytes(text.as_slice())?;
-    }
-    Ok(())
-}
 
 /// Adds two texts as many times, and between them the numbers from 0.
 fn push_numbered(
@@ -39,7 +32,7 @@ fn push_piece(out: &mut Text, piece: &Value) -> Result<(), Fail> {
     let parts = piece.items().ok_or("no text")?;
     let count = count_at(parts, 1)?;
     if parts.len() == 2 {
-        push_times(out, text_at(parts, 0)?, count)?;
+        push_times(out, text_at(parts, 0)?.as_slice(), count)?;
     } else {
         push_numbered(out, text_at(parts, 0)?, count, text_at(parts, 2)?)?;
     }
