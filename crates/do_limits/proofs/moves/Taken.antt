@@ -5,8 +5,8 @@ use Rattle.std.proofs.Common.{◌≡◌, ℕ, true, arith, map, refl, sym, subst
 use Rattle.do_base.specs.declared.events.exception.Exc.{Exc, TheVariants.{Deep, NotUnderstood}}
 use Rattle.do_base.specs.declared.events.exception.Exc.TheVariants.{NotVended, TypeFault}
 use Rattle.do_class.specs.declared.packet.Packet.{Packet}
-use Rattle.do_behave.specs.declared.invocation.Answer.{Answer}
-use Rattle.do_behave.specs.declared.invocation.{Invocation.Invocation, Reason.Reason, Waited.Waited}
+use Rattle.do_behave.specs.declared.invocation.{Answer.Answer, Invocation.Invocation, Reason.Reason}
+use Rattle.do_behave.specs.declared.invocation.Waited.{Waited}
 use Rattle.do_machine.specs.declared.{item.{Item.Item, Message.Message}, node.Node.Node}
 use Rattle.do_machine.specs.{Context.own_class, State.own, take.Awaiting.AnsweredCall}
 use Rattle.do_machine.specs.take.Receipt.{is_entered, is_reachable, reading}

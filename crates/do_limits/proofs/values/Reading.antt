@@ -1,7 +1,7 @@
 -- A message that was read of a frame keeps the limits, and its parts can be spelled.
 use Rattle.do_class.specs.declared.packet.Part.TheVariants as part
-use Rattle.std.proofs.Common.{◌≡◌, ◌-◌, ℕ, ℤ, Bool, true, List as Listed, [], ◌∷◌, length}
-use Rattle.std.{proofs.Common.{map, refl, sym, ap, ◌∙◌, rules, arith}, specs.Prelude.{Some, get_or}}
+use Rattle.std.proofs.Common.{◌≡◌, ◌-◌, ℕ, ℤ, Bool, true, List as Listed, [], ◌∷◌, length, map}
+use Rattle.std.{proofs.Common.{refl, sym, ap, ◌∙◌, rules, arith}, specs.Prelude.{Some, get_or}}
 use Rattle.std.specs.Prelude.{nat_le, nat_lt, option_map, slice_get, suc, zero, ◌<◌, ◌≤◌}
 use Rattle.std.{specs.List.{All, AllByRecursion, list_all}, proofs.lemmas.Bool.and_from}
 use Rattle.std.proofs.lemmas.{Bool.and_parts, List.{length-map, Elements.All-from_recursion}}

@@ -1,11 +1,10 @@
 -- The numbers of a network's nodes are those of the machine's.
-use Rattle.std.proofs.Common.{◌∙◌, ◌<◌, ℕ, List, ap, length, sym}
-use Rattle.std.specs.Prelude.{option_map}
+use Rattle.std.{proofs.Common.{◌∙◌, ◌<◌, ℕ, List, ap, length, sym}, specs.Prelude.option_map}
 use Rattle.do_base.specs.declared.events.event.Event.{Event}
 use Rattle.do_class.specs.Class.{Class}
 use Rattle.do_machine.specs.{declared.state.{Seat.Seat, State.State}, World.IsWorld, run.Run.Acting}
 use Rattle.do_facts.specs.Reached.{reached}
-use Rattle.do_network.specs.{Links.Part, Net.{Net}}
+use Rattle.do_network.specs.{Links.Part, Net.Net}
 use Rattle.do_limits.specs.{Numbers.AllNumbersWithin, SendableActs.AllStartSendable}
 use Rattle.do_limits.{specs.SendableActs.KeepsSendable, proofs.Selectors.has_methods}
 use Rattle.do_limits.proofs.numbers.{Few.few_small, Reached.reached_numbers}
