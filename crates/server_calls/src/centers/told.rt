@@ -34,21 +34,33 @@ const CALLS: [(&[u8], Call); 8] = [
     (b"observers", Call::Observers),
 ];
 
-/// The observers of deliveries, in order.
-fn observers(sent: &Deliveries) -> Result<Value, AllocError> {
-    let mut values = Values::new(sent.allocator());
+/// Adds the observers of deliveries, in order.
+fn push_observers(values: &mut Values, sent: &Deliveries) -> Result<(), AllocError> {
     for delivery in sent.as_slice() {
         values.push(Value::Obj(delivery.observer))?;
     }
+    Ok(())
+}
+
+/// The observers of deliveries, in order.
+fn observers(sent: &Deliveries) -> Result<Value, AllocError> {
+    let mut values = Values::new(sent.allocator());
+    push_observers(&mut values, sent)?;
     Ok(Value::List(values))
+}
+
+/// Adds the information of deliveries, in order.
+fn push_infos(values: &mut Values, sent: &Deliveries) -> Result<(), AllocError> {
+    for delivery in sent.as_slice() {
+        values.push(copy_value(&delivery.note.info)?)?;
+    }
+    Ok(())
 }
 
 /// The information of deliveries, in order.
 fn infos(sent: &Deliveries) -> Result<Value, AllocError> {
     let mut values = Values::new(sent.allocator());
-    for delivery in sent.as_slice() {
-        values.push(copy_value(&delivery.note.info)?)?;
-    }
+    push_infos(&mut values, sent)?;
     Ok(Value::List(values))
 }
 
