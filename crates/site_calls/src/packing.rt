@@ -122,12 +122,18 @@ fn objects_in(value: &Value) -> Result<Oids, Fail>
     Ok(oids)
 }
 
-/// Flags, of which each that is no 0 is set.
-fn flags_in(values: &Values) -> Result<Flags, AllocError> {
-    let mut flags = Flags::new(values.allocator());
+/// Adds flags, of which each that is no 0 is set.
+fn push_flags(flags: &mut Flags, values: &Values) -> Result<(), AllocError> {
     for value in values.as_slice() {
         flags.push(*value != Value::Num(0))?;
     }
+    Ok(())
+}
+
+/// Flags, of which each that is no 0 is set.
+fn flags_in(values: &Values) -> Result<Flags, AllocError> {
+    let mut flags = Flags::new(values.allocator());
+    push_flags(&mut flags, values)?;
     Ok(flags)
 }
 

@@ -22,13 +22,19 @@ pub(crate) struct Reading {
     ghost of_table: { AllByRecursion (IsKnown (length table)) known } by { Prim.hlevel props },
 }
 
+/// Adds so many slots, each of another name.
+fn push_slots(slots: &mut Slots, count: u8) -> Result<(), AllocError> {
+    for number in 0..count {
+        let name = Text::from_slice(slots.allocator(), &[number])?;
+        slots.push(Slot { name, copy: false })?;
+    }
+    Ok(())
+}
+
 /// So many slots, each of another name.
 fn slots(alloc: Global, count: u8) -> Result<Slots, AllocError> {
     let mut slots = Slots::new(alloc);
-    for number in 0..count {
-        let name = Text::from_slice(alloc, &[number])?;
-        slots.push(Slot { name, copy: false })?;
-    }
+    push_slots(&mut slots, count)?;
     Ok(slots)
 }
 

@@ -4,7 +4,7 @@ use call_rows::{
     Part, call_of, count_at, count_value, no_call, pair_value, printed, text_at, texts_at,
 };
 use do_base::{Value, Values};
-use do_frames::{RawFrame, Reader, StreamFault, frames_of};
+use do_frames::{RawFrame, Reader, frames_of};
 use std::alloc::Global;
 use std::test::Fail;
 
@@ -62,6 +62,20 @@ fn feed(alloc: Global, reader: &mut Reader, piece: &[u8], frames: &mut Values) -
     Ok(())
 }
 
+/// Feeds a stream in pieces of a length, and adds the frames that come.
+fn feed_pieces(
+    alloc: Global,
+    reader: &mut Reader,
+    stream: &[u8],
+    length: usize,
+    frames: &mut Values,
+) -> Result<(), Fail> {
+    for piece in stream.chunks(length.max(1)) {
+        feed(alloc, reader, piece, frames)?;
+    }
+    Ok(())
+}
+
 impl StreamCalls {
     /// A stream of which nothing came.
     pub(crate) fn new(alloc: Global) -> StreamCalls {
@@ -89,9 +103,13 @@ impl StreamCalls {
         let stream = text_at(args, 1)?;
         self.reader = Reader::new(self.alloc);
         let mut frames = Values::new(self.alloc);
-        for piece in stream.as_slice().chunks(length.max(1)) {
-            feed(self.alloc, &mut self.reader, piece, &mut frames)?;
-        }
+        feed_pieces(
+            self.alloc,
+            &mut self.reader,
+            stream.as_slice(),
+            length,
+            &mut frames,
+        )?;
         Ok(Value::List(frames))
     }
 

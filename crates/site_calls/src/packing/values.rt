@@ -2,7 +2,7 @@
 ghost use Rattle.std.specs.Prelude.{◌≡◌, ◌≤◌, ◌<◌, ◌^◌, ◌*◌, IfOk, length, sum_by};
 ghost use Rattle.do_base.specs.values.Values.{weight_of};
 
-use do_base::{Flags, Items, NodeId, Oid, Oids, Text, Value, Values};
+use do_base::{Flags, Items, NodeId, Oid, Oids, Value, Values};
 use std::alloc::{AllocError, Global};
 
 /// Objects as values, at most 50,000.
