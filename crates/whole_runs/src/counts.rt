@@ -21,12 +21,18 @@ fn push_count(values: &mut Values, port: u16, asked: u64) -> Result<(), Fail> {
     Ok(values.push(count)?)
 }
 
+/// Adds how many acts each node was asked for, by its port.
+fn push_counts(values: &mut Values, nodes: &Seats, makers: &Makers<Counting>) -> Result<(), Fail> {
+    for (node, counting) in nodes.as_slice().iter().zip(makers.as_slice()) {
+        push_count(values, node.node.port(), counting.get().asked())?;
+    }
+    Ok(())
+}
+
 /// How many acts each node was asked for, by its port.
 fn counts(nodes: &Seats, makers: &Makers<Counting>) -> Result<Value, Fail> {
     let mut values = Values::new(nodes.allocator());
-    for (node, counting) in nodes.as_slice().iter().zip(makers.as_slice()) {
-        push_count(&mut values, node.node.port(), counting.get().asked())?;
-    }
+    push_counts(&mut values, nodes, makers)?;
     Ok(Value::List(values))
 }
 

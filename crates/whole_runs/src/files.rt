@@ -21,23 +21,36 @@ fn add(files: &mut FileList, name: &[u8], bytes: Text) -> Result<(), AllocError>
     files.push(NamedFile { name, bytes })
 }
 
+/// Adds a file for each two arguments, its name and its bytes.
+fn add_given(files: &mut FileList, args: &Values) -> Result<(), Fail> {
+    for at in 0..args.len() / 2 {
+        let name = text_at(args, at * 2)?;
+        let bytes = text_at(args, at * 2 + 1)?.clone()?;
+        add(files, name.as_slice(), bytes)?;
+    }
+    Ok(())
+}
+
 /// A file for each two arguments, its name and its bytes.
 pub(crate) fn given_files(args: &Values) -> Result<FileList, Fail> {
     let mut files = FileList::new(args.allocator());
-    for at in 0..args.len() / 2 {
-        let bytes = text_at(args, at * 2 + 1)?.clone()?;
-        add(&mut files, text_at(args, at * 2)?.as_slice(), bytes)?;
-    }
+    add_given(&mut files, args)?;
     Ok(files)
+}
+
+/// Adds the files of these names as they are stored.
+fn add_stored(rt: &HostRuntime, files: &mut FileList, names: &Values) -> Result<(), Fail> {
+    for at in 0..names.len() {
+        let name = text_at(names, at)?;
+        add(files, name.as_slice(), stored(rt, name)?)?;
+    }
+    Ok(())
 }
 
 /// The files of these names as they are stored.
 pub(crate) fn stored_files(rt: &HostRuntime, names: &Values) -> Result<FileList, Fail> {
     let mut files = FileList::new(rt.alloc());
-    for at in 0..names.len() {
-        let name = text_at(names, at)?;
-        add(&mut files, name.as_slice(), stored(rt, name)?)?;
-    }
+    add_stored(rt, &mut files, names)?;
     Ok(files)
 }
 
@@ -74,13 +87,18 @@ pub(crate) fn long_file(alloc: Global, name: &Text, count: usize) -> Result<File
     one_file(name.as_slice(), bytes)
 }
 
-/// Starts of a line so many times.
-fn repeated(count: u16, line: &Text) -> Result<Text, AllocError> {
-    let mut text = Text::from_slice(line.allocator(), b"starts 1\n")?;
+/// Adds a line so many times, and the line of the end.
+fn push_repeated(text: &mut Text, count: u16, line: &Text) -> Result<(), AllocError> {
     for _line in 0..count {
         text.push_bytes(line.as_slice())?;
     }
-    text.push_bytes(b"end\n")?;
+    text.push_bytes(b"end\n")
+}
+
+/// Starts of a line so many times.
+fn repeated(count: u16, line: &Text) -> Result<Text, AllocError> {
+    let mut text = Text::from_slice(line.allocator(), b"starts 1\n")?;
+    push_repeated(&mut text, count, line)?;
     Ok(text)
 }
 

@@ -126,6 +126,14 @@ fn sent_value(alloc: Global, sent: &Sent) -> Result<Value, Fail> {
     triple_value(alloc, peer, bytes, failed)
 }
 
+/// Adds sends: the peer, the bytes, and whether each failed.
+fn push_sent(answer: &mut Values, link: &MemLink) -> Result<(), Fail> {
+    for sent in link.sent().as_slice() {
+        answer.push(sent_value(answer.allocator(), sent)?)?;
+    }
+    Ok(())
+}
+
 impl LinkCalls {
     /// A link that does not listen.
     pub(crate) fn new(alloc: Global) -> Result<LinkCalls, AllocError> {
@@ -165,9 +173,7 @@ impl LinkCalls {
     /// The sends so far: the peer, the bytes, and whether each failed.
     fn sent(&self) -> Result<Value, Fail> {
         let mut answer = Values::new(self.alloc);
-        for sent in self.link.sent().as_slice() {
-            answer.push(sent_value(self.alloc, sent)?)?;
-        }
+        push_sent(&mut answer, &self.link)?;
         Ok(Value::List(answer))
     }
 

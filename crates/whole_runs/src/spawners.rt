@@ -7,12 +7,18 @@ use do_lab::{MemSpawner, StatusList};
 use std::alloc::{AllocError, Global};
 use std::test::Fail;
 
-/// The statuses that children end with.
-fn statuses_of(values: &Values) -> Result<StatusList, Fail> {
-    let mut statuses = StatusList::new(values.allocator());
+/// Adds statuses.
+fn push_statuses(statuses: &mut StatusList, values: &Values) -> Result<(), Fail> {
     for at in 0..values.len() {
         statuses.push(i32::try_from(number_at(values, at)?)?)?;
     }
+    Ok(())
+}
+
+/// The statuses that children end with.
+fn statuses_of(values: &Values) -> Result<StatusList, Fail> {
+    let mut statuses = StatusList::new(values.allocator());
+    push_statuses(&mut statuses, values)?;
     Ok(statuses)
 }
 

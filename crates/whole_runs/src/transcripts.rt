@@ -20,23 +20,35 @@ fn push_step(schedule: &mut Text, line: &[u8]) -> Result<(), AllocError> {
     }
 }
 
+/// Adds the steps that begin the blocks of a transcript.
+fn push_steps(schedule: &mut Text, transcript: &[u8]) -> Result<(), AllocError> {
+    for line in transcript.split(|byte| *byte == b'\n') {
+        push_step(schedule, line)?;
+    }
+    Ok(())
+}
+
 /// The schedule whose lines begin the blocks of a transcript.
 pub(crate) fn schedule_of(transcript: &Text) -> Result<Text, AllocError> {
     let mut schedule = Text::from_slice(transcript.allocator(), b"schedule 2\n")?;
-    for line in transcript.as_slice().split(|byte| *byte == b'\n') {
-        push_step(&mut schedule, line)?;
-    }
+    push_steps(&mut schedule, transcript.as_slice())?;
     Ok(schedule)
+}
+
+/// Adds the lines of a transcript but those of what was sent.
+fn push_plain(plain: &mut Text, transcript: &[u8]) -> Result<(), AllocError> {
+    for line in transcript.split(|byte| *byte == b'\n') {
+        if !line.is_empty() && !line.starts_with(b"wire ") {
+            push_line(plain, line)?;
+        }
+    }
+    Ok(())
 }
 
 /// The lines of a transcript but those of what was sent.
 pub(crate) fn without_wires(transcript: &Text) -> Result<Text, AllocError> {
     let mut plain = Text::new(transcript.allocator());
-    for line in transcript.as_slice().split(|byte| *byte == b'\n') {
-        if !line.is_empty() && !line.starts_with(b"wire ") {
-            push_line(&mut plain, line)?;
-        }
-    }
+    push_plain(&mut plain, transcript.as_slice())?;
     Ok(plain)
 }
 
