@@ -7,7 +7,6 @@ use Rattle.do_class.specs.Class.{Class}
 use Rattle.do_behave.specs.declared.invocation.Invocation.{Invocation}
 use Rattle.do_machine.specs.{declared.node.Node.Node, Context.{Context, RunContext}, State.is_open}
 use Rattle.do_network.specs.Own.{Own, site_context}
-use Rattle.do_streams.specs.Streamed.{Fixed}
 use Rattle.do_effects.specs.{Bounded.IsBounded, Plans.{IsRun, IsRunning, plan_effect}}
 use Rattle.do_effects.specs.{Room.{HasRoom, Needs as Wants}, declared.changing.Core.Core}
 use Rattle.do_effects.specs.declared.plan.Plan.{Plan, TheVariants.{Asks, Begins, Delivers, Goes}}
