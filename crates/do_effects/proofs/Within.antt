@@ -34,7 +34,8 @@ names_within done more told many waiting copies a b c all lines first second = r
     invocations = (let f = first.part.invocations in let s = second.part.invocations in
         omega (arith, f, s));
     names = (let f = first.part.names in let s = second.part.names in omega (arith, f, s, all));
-    entries = (let f = first.part.entries in let s = second.part.entries in omega (arith, f, s));
+    entries = (let f = first.part.entries in let s = second.part.entries in
+        omega (arith, f, s, all));
   };
   waiting = (let f = first.waiting in let s = second.waiting in omega (arith, f, s, lines));
   stored = (let f = first.stored in let s = second.stored in omega (arith, f, s));

@@ -9,8 +9,8 @@ pub record IsBounded (needs : Needs) (before after : Core) : Type 0 where
   pub waiting : before.streams.room ≤ after.streams.room + needs.waiting
   pub stored :
       length after.part.own.node.heap ≤ length before.part.own.node.heap + needs.objects
-  pub held : length after.part.own.node.held ≤ length before.part.own.node.held + needs.names
-  pub asked : length after.part.own.node.asked ≤ length before.part.own.node.asked + needs.names
+  pub held : length after.part.own.node.held ≤ length before.part.own.node.held + needs.entries
+  pub asked : length after.part.own.node.asked ≤ length before.part.own.node.asked + needs.entries
   pub classes : after.streams.classes ≡ before.streams.classes
 
 -- a node came of another: no more objects are stored, held and asked for

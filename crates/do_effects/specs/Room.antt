@@ -4,7 +4,8 @@ use Rattle.do_machine.specs.declared.item.Item.{Item}
 use Rattle.do_part.specs.Owned.{Room}
 use Rattle.do_effects.specs.{Sends.names_counted, declared.changing.Core.Core}
 
--- so many objects, invocations, names and entries, and so many frames and lines
+-- So many objects, invocations, names and entries, and so many frames and lines. An entry is that
+-- of an object that is named to a peer or by one.
 pub record Needs : Type 0 where
   pub objects : ℕ
   pub invocations : ℕ
@@ -54,13 +55,13 @@ pub record HasRoom (needs : Needs) (c : Core) : Type 0 where
   pub part : PartHasRoom needs c.part.room
   pub waiting : needs.waiting ≤ c.streams.room
 
--- A core came of another and took no more: all other room is left, no more objects are stored, held
--- and asked for, and the links read by the same classes.
+-- A core came of another and took no more: all other room is left, no more objects are stored, no
+-- more are held and asked for than were named by a peer, and the links read by the same classes.
 pub record IsWithin (needs : Needs) (before after : Core) : Type 0 where
   pub part : PartKeepsRoom needs before.part.room after.part.room
   pub waiting : before.streams.room ≤ after.streams.room + needs.waiting
   pub stored :
       length after.part.own.node.heap ≤ length before.part.own.node.heap + needs.objects
-  pub held : length after.part.own.node.held ≤ length before.part.own.node.held + needs.names
-  pub asked : length after.part.own.node.asked ≤ length before.part.own.node.asked + needs.names
+  pub held : length after.part.own.node.held ≤ length before.part.own.node.held + needs.entries
+  pub asked : length after.part.own.node.asked ≤ length before.part.own.node.asked + needs.entries
   pub classes : after.streams.classes ≡ before.streams.classes

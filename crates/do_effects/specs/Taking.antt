@@ -123,7 +123,7 @@ to_gain many copies = record {
   objects = length copies;
   invocations = 0;
   names = many + sizes_of (made_values copies);
-  entries = 0;
+  entries = many;
   waiting = many;
 }
 
@@ -139,7 +139,7 @@ ruling_needs n many (Answers copies k a) = record (to_gain many copies) {
   names = many + sizes_of (made_values copies) + sizes_of (values_taken a);
 }
 ruling_needs n many (Replies answer) = to_send answer
-ruling_needs n many (EndsAsk w) = record (to_keep 1) { waiting = 1 }
+ruling_needs n many (EndsAsk w) = record (to_keep 1) { entries = 1; waiting = 1 }
 ruling_needs n many Closes = to_tell (length n.asked + 1)
 ruling_needs n many _ = to_tell 0
 

@@ -15,31 +15,33 @@ use do_import::Imports;
 use do_store::Store;
 use std::alloc::AllocError;
 
-/// Empties the lists, and makes room in them for all that `leave` may tell once `more` further
-/// objects are stored and as many received.
+/// Empties the lists, and makes room in them for all that `leave` may tell once so many further
+/// objects are stored, and so many are received.
 ///
 /// Neither list has less room than before. If memory runs out, that is all, and nothing else is
 /// changed.
 pub fn make_room(
     store: &Store,
     imports: &Imports,
-    more: u64,
+    objects: u64,
+    received: u64,
     freed: &mut Vec<u64>,
     left: &mut Vec<(Oid, u64)>,
 ) -> Result<(), AllocError>
-    ensures freed { OnOk result (length store.now.objects + more ≤ vec_capacity freed.new) }
+    ensures freed { OnOk result (length store.now.objects + objects ≤ vec_capacity freed.new) }
     ensures none_freed { freed.new.items ≡ [] }
     ensures none_left { left.new.items ≡ [] }
-    ensures left { OnOk result (map.len imports.now.received + more ≤ vec_capacity left.new) }
+    ensures left { OnOk result (map.len imports.now.received + received
+        ≤ vec_capacity left.new) }
     ensures freed_kept { vec_capacity freed.old ≤ vec_capacity freed.new }
     ensures left_kept { vec_capacity left.old ≤ vec_capacity left.new }
 {
     freed.clear();
     left.clear();
-    let Some(stored) = store.bound().checked_add(more) else {
+    let Some(stored) = store.bound().checked_add(objects) else {
         return Err(AllocError);
     };
-    let Some(received) = imports.len().checked_add(more) else {
+    let Some(received) = imports.len().checked_add(received) else {
         return Err(AllocError);
     };
     freed.reserve(stored as usize)?;

@@ -87,7 +87,7 @@ pub enough_place : (wants : Wants) (needs : Needs) (c : Core) (t : Told) →
     IsEnough wants needs → HasPlace needs c t → HasPlaceFor wants c t
 enough_place wants needs c t e p =
     let eo = e.objects in
-    let en = e.names in
+    let ee = e.entries in
     let ew = e.waiting in
     let pf = p.freed in
     let pl = p.left in
@@ -96,9 +96,9 @@ enough_place wants needs c t e p =
     record {
       room = enough_room wants needs c e p.room;
       freed = omega (arith, eo, pf);
-      left = omega (arith, en, pl);
-      settled = omega (arith, en, ps);
-      waiting = omega (arith, eo, en, ew, pw);
+      left = omega (arith, ee, pl);
+      settled = omega (arith, ee, ps);
+      waiting = omega (arith, eo, ee, ew, pw);
     }
 
 -- where a place was made, there is one to leave what is then stored and held

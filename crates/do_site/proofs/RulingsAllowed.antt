@@ -49,7 +49,8 @@ pub refused_allowed : (n : Node) (from many : ℕ) (item : Item) (copies : List 
     (reason : Reason) (e : Exc) (needs : Needs) → AllowsMessage n many copies 0 needs →
     AllowsItem n from item many (Refuses copies reason e) needs
 refused_allowed n from many item copies reason e needs a =
-    let objects = a.objects in let names = a.names in let waiting = a.waiting in
+    let objects = a.objects in let names = a.names in let entries = a.entries in
+    let waiting = a.waiting in
     record {
       copies = a.there;
       kept = λ serial some. absurd (omega (arith, some));
@@ -58,7 +59,7 @@ refused_allowed n from many item copies reason e needs a =
         objects = omega (arith, objects);
         invocations = omega arith;
         names = omega (arith, names);
-        entries = omega arith;
+        entries = omega (arith, entries);
         waiting = omega (arith, waiting);
       };
     }

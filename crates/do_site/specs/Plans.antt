@@ -54,7 +54,7 @@ pub record AllowsMessage (n : Node) (many : ℕ) (copies : List Made) (kept : �
   pub objects : needs.objects ≡ length copies
   pub invocations : needs.invocations ≡ 1
   pub names : needs.names ≡ many + sizes_of (made_values copies) + kept
-  pub entries : needs.entries ≡ 0
+  pub entries : needs.entries ≡ many
   pub waiting : needs.waiting ≡ many + 1
 
 -- a node can do what the ruling on an item with so many names says, but for the line that shows it,

@@ -28,10 +28,10 @@ to_keep names = record { objects = 0; invocations = 0; names = names; entries = 
 pub record HasPlaceFor (n : Wants) (c : Core) (t : Told) : Type 0 where
   pub room : HasRoom n c
   pub freed : length c.part.own.node.heap + n.objects ≤ vec_capacity t.freed
-  pub left : length c.part.own.node.held + n.names ≤ vec_capacity t.left
-  pub settled : length c.part.own.node.asked + n.names ≤ vec_capacity t.settled
-  pub waiting : length c.part.own.node.heap + n.objects + (length c.part.own.node.held + n.names)
-      + (length c.part.own.node.asked + n.names) + 66 + n.waiting ≤ c.streams.room
+  pub left : length c.part.own.node.held + n.entries ≤ vec_capacity t.left
+  pub settled : length c.part.own.node.asked + n.entries ≤ vec_capacity t.settled
+  pub waiting : length c.part.own.node.heap + n.objects + (length c.part.own.node.held + n.entries)
+      + (length c.part.own.node.asked + n.entries) + 66 + n.waiting ≤ c.streams.room
 
 -- so for what was counted
 abbrev pub HasPlace : Needs → Core → Told → Type 0

@@ -13,7 +13,7 @@ pub struct Needs {
     pub invocations: u64,
     /// How many names of objects.
     pub names: u64,
-    /// How many entries of peers.
+    /// How many entries of peers: of objects that are named to a peer or by one.
     pub entries: u64,
     /// How many frames and lines.
     pub waiting: u64,

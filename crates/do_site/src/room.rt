@@ -9,14 +9,15 @@ use do_effects::Core;
 use do_part::Part;
 use std::alloc::AllocError;
 
-/// Makes room for the ends of all that the node asked for, and asks for with `more` names. What the
-/// list had is dropped, and it has no less room than before.
-fn reserve_settled(part: &Part, more: u64, settled: &mut Vec<Token>) -> Result<(), AllocError>
-    ensures ok { OnOk result (length part.now.own.node.asked + more ≤ vec_capacity settled.new) }
+/// Makes room for the ends of all that the node asked for, and asks for once so many more objects
+/// are received. What the list had is dropped, and it has no less room than before.
+fn reserve_settled(part: &Part, received: u64, settled: &mut Vec<Token>) -> Result<(), AllocError>
+    ensures ok { OnOk result
+        (length part.now.own.node.asked + received ≤ vec_capacity settled.new) }
     ensures kept { vec_capacity settled.old ≤ vec_capacity settled.new }
 {
     settled.clear();
-    let Some(asked) = part.asks().checked_add(more) else {
+    let Some(asked) = part.asks().checked_add(received) else {
         return Err(AllocError);
     };
     settled.reserve(asked as usize)
@@ -46,13 +47,14 @@ pub fn make_room(core: &mut Core, told: &mut Told, needs: &Needs) -> Result<(), 
     ensures places { HasPlaces core.old told.old → HasPlaces core.new told.new }
     ensures room { OnOk result (HasPlace needs.now core.new told.new) }
 {
-    let Some(more) = needs.objects.checked_add(needs.names) else {
-        return Err(AllocError);
-    };
     core.part.reserve(needs.objects, needs.invocations, needs.names, needs.entries)?;
-    core.part
-        .make_room_to_leave(more, &mut told.freed, &mut told.left)?;
-    reserve_settled(&core.part, needs.names, &mut told.settled)?;
+    core.part.make_room_to_leave(
+        needs.objects,
+        needs.entries,
+        &mut told.freed,
+        &mut told.left,
+    )?;
+    reserve_settled(&core.part, needs.entries, &mut told.settled)?;
     let Some(waiting) = waiting_with(told, needs) else {
         return Err(AllocError);
     };

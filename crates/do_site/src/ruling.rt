@@ -111,7 +111,7 @@ fn of_message(part: &Part, many: u64, copies: &[Made], kept: u64) -> Option<Need
         objects: more,
         invocations: 1,
         names,
-        entries: 0,
+        entries: many,
         waiting,
     })
 }
@@ -154,6 +154,7 @@ fn of_ask(part: &Part, wanted: &Wanted) -> Option<Needs>
         return None;
     }
     Some(Needs {
+        entries: 1,
         waiting: 1,
         ..Needs::to_keep(1)
     })

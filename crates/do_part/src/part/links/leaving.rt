@@ -45,21 +45,22 @@ impl Part {
         self.holders.imports.counts_are_tied();
     }
 
-    /// Empties the lists, and makes room in them for all that `leave` may tell once `more` further
-    /// objects are stored and as many received.
+    /// Empties the lists, and makes room in them for all that `leave` may tell once so many further
+    /// objects are stored, and so many are received.
     ///
     /// Neither list has less room than before, and the part is unchanged. If memory runs out, that
     /// is all.
     pub fn make_room_to_leave(
         &self,
-        more: u64,
+        objects: u64,
+        received: u64,
         freed: &mut Vec<u64>,
         left: &mut Vec<(Oid, u64)>,
     ) -> Result<(), AllocError>
         ensures freed { OnOk result
-            (length self.now.own.node.heap + more ≤ vec_capacity freed.new) }
+            (length self.now.own.node.heap + objects ≤ vec_capacity freed.new) }
         ensures left { OnOk result
-            (length self.now.own.node.held + more ≤ vec_capacity left.new) }
+            (length self.now.own.node.held + received ≤ vec_capacity left.new) }
         ensures freed_kept { vec_capacity freed.old ≤ vec_capacity freed.new }
         ensures left_kept { vec_capacity left.old ≤ vec_capacity left.new }
         ensures none_freed { freed.new.items ≡ [] }
@@ -68,7 +69,8 @@ impl Part {
         do_leaving::make_room(
             &self.holders.store,
             &self.holders.imports,
-            more,
+            objects,
+            received,
             freed,
             left,
         )

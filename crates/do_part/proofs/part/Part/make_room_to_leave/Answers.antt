@@ -6,5 +6,5 @@ use Rattle.do_part.proofs.HeldRows.{held_len}
 pub returns-clause-left : goal.returns-clause-left
 returns-clause-left c =
     rw (← c.self.view_is) (subst (λ (n : ℕ). OnOk c.make_room.result
-    (n + c.args.more ≤ vec_capacity c.make_room.new.left))
+    (n + c.args.received ≤ vec_capacity c.make_room.new.left))
     (sym (held_len c.self.inside.holders.imports.received)) c.make_room.ensures.left)
