@@ -5,7 +5,8 @@ use Rattle.std.proofs.lemmas.List.Sums.{sum_by-cons}
 use Rattle.std.specs.{List.AllByRecursion, Prelude.{None, Ok, Some, nat_lt, sum_by, ◌&&◌}}
 use Rattle.do_class.specs.Class.{Class}
 use Rattle.do_sched.specs.Schedule.{most_steps}
-use Rattle.do_record.specs.{Recorded.recorded, declared.parts.{Block.Block, Record.Record}}
+use Rattle.do_record.specs.{Recorded.{record_of, recorded}, declared.parts.Block.Block}
+use Rattle.do_record.specs.declared.parts.Record.{Record}
 use Rattle.do_machine.specs.{World.{IsSeat, IsWorld}, declared.state.Seat.Seat, run.Run.Acting}
 use Rattle.do_limits.specs.SendableActs.{KeepsSendable}
 use Rattle.do_at_hand.specs.AtHand.{ShowsNames}
@@ -65,14 +66,16 @@ files_read table act seats seat turns s told earlier world is here keeps names a
     let it = served_read table act seats seat turns s told world is keeps names at server small few
     in
     let ran : Ran = record { seat = seat; inputs = it.inputs; whole = has_ended r.how } in
+    let read : record_of (record_text port r) ≡ Ok (record_of_run table act seats ran) =
+    it.reads ∙ ap (λ (x : Seen). Ok (recorded port (blocks_of site_rules port 2 x it.inputs)
+    (has_ended r.how))) at in
     record {
       ran = ran;
       at = refl;
       served = it.served;
+      is_read = read;
       reads = λ within.
-          ap (behind seats earlier) (it.reads
-          ∙ ap (λ (x : Seen). Ok (recorded port (blocks_of site_rules port 2 x it.inputs)
-          (has_ended r.how))) at)
+          ap (behind seats earlier) read
           ∙ ap (unless_at (record_of_run table act seats ran))
           (no_fault seats earlier (record_of_run table act seats ran) here alone within);
     }

@@ -15,4 +15,5 @@ pub mod TextsCome
 pub mod AsOneMachine
 pub mod RunsCome
 pub mod NodesCome
+pub mod ServedRead
 pub mod OrdersKept

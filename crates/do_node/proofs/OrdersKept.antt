@@ -1,15 +1,15 @@
 -- What is woven is an order of the records' inputs. Where they contradict there is none, and they
--- are not those of nodes that exchanged their bytes.
+-- are not those of nodes that exchanged their bytes. Where a file is none, it was altered.
+use Rattle.do_weave.specs.declared.fault.WeaveFault.TheVariants as weaving
 use Rattle.do_sched.specs.declared.fault.SchedFault.TheVariants as sched
 use Rattle.std.proofs.Common.{◌≡◌, ◌++◌, ℕ, List, [], ◌∷◌, None, Option, Some, Result, Ok, Err, inl}
 use Rattle.std.{proofs.Common.{inr, subst}, specs.Prelude.{IfErr, IfSome}}
 use Rattle.do_base.specs.declared.outside.shelf.NamedFile.{NamedFile}
 use Rattle.do_cli.specs.declared.command.Command.{Command, TheVariants.Weave}
 use Rattle.do_exchanged.proofs.Exchange.{exchanged_done}
-use Rattle.do_given.specs.{Parts.behaviour_of, Reading.{RefusesWorld, Stops}}
-use Rattle.do_given.specs.declared.status.Status.{Status, TheVariants.{Contradiction, Memory}}
-use Rattle.do_kept.proofs.Ranged.{worlds_keep}
-use Rattle.do_limits.specs.SendableActs.{KeepsSendable}
+use Rattle.do_given.specs.{Parts.behaviour_of, Reading.{GivesWorld, RefusesWorld, Stops}}
+use Rattle.do_given.specs.declared.status.Status.{Status}
+use Rattle.do_given.specs.declared.status.Status.TheVariants.{BadRecord, Contradiction, Memory}
 use Rattle.do_machine.specs.{World.opening, declared.state.Seat.Seat}
 use Rattle.do_native.specs.Acts.{native_act}
 use Rattle.do_orders.proofs.InputsCommute.{inputs_commute}
@@ -24,7 +24,8 @@ use Rattle.do_world.specs.{Sound.IsSound, declared.world.World.World}
 use Rattle.do_node.specs.{Answering.answer_of, Orders.{AnswersAltered, HaveNoOrder, HaveOrder}}
 use Rattle.do_node.specs.{Orders.TellsAltered, Records.{SayNoRecords, told_of_record}}
 use Rattle.do_node.specs.Weaving.{Contradicts, GivesRecords, IsWoven, RefusesWeaving, rules_of}
-use Rattle.do_node.{specs.Weaving.world_woven, proofs.RecordsGiven.{files_read, over_world}}
+use Rattle.do_node.{specs.Weaving.{told_of_weaving, world_woven}, proofs.RecordsGiven.files_read}
+use Rattle.do_node.proofs.{RecordsGiven.over_world, ServedRead.{sound_keeps, tells_not_served}}
 
 -- what a world's records contradict, from its opening on
 fault_over : (w : World) (records : List Record) (fault : WeaveFault) →
@@ -87,11 +88,16 @@ no_order told word names index line (inr (inr h)) = record {
 
 -- ---- records that are altered
 
--- the acts of a world that was read keep values that a message can carry
-sound_keeps : (w : World) → IsSound w → KeepsSendable w.table (native_act (behaviour_of w))
-sound_keeps w sound =
-    worlds_keep (behaviour_of w) w.table (record { program = sound.made; kinds = sound.kinds })
-    sound.codes sound.denials
+-- no world is refused as a record
+no_record_of : (told : Option (List NamedFile)) (word : List ℕ) (index line : ℕ) →
+    RefusesWorld told word (BadRecord index line) → ⊥
+no_record_of told word index line (none, inl long) = let e = long.tells in cc
+no_record_of told word index line (none, inr bad) = let e = bad.is_read.tells in cc
+
+-- nor are records that contradict
+no_fault : (fault : WeaveFault) (index line : ℕ) → BadRecord index line ≡ told_of_weaving fault → ⊥
+no_fault (weaving.Contradiction at of) index line e = cc
+no_fault weaving.Memory index line e = cc
 
 module _ (told : Option (List NamedFile)) (word : List ℕ) (names : List (List ℕ)) where
   -- a world is refused otherwise
@@ -99,16 +105,19 @@ module _ (told : Option (List NamedFile)) (word : List ℕ) (names : List (List 
       Stops unread ⊥ (RefusesWorld told word) status → TellsAltered told word names status
   world_altered unread (Contradiction index line) stopped =
       absurd (no_world told word index line stopped)
+  world_altered unread (BadRecord index line) stopped =
+      absurd (no_record_of told word index line stopped)
   world_altered unread _ stopped = tt
 
-  -- and so are records
-  pub records_altered : (unread : Type 0) (same : Option (List NamedFile)) (seats : List Seat)
-      (earlier : List Record) (given : List (List ℕ)) (status : Status) →
-      Stops unread ⊥ (SayNoRecords same seats earlier given) status →
+  -- where a file is no record, not all were written by nodes that served
+  pub records_altered : (unread : Type 0) (w : World) → IsSound w → GivesWorld told word w →
+      (status : Status) → Stops unread ⊥ (SayNoRecords told w.nodes [] names) status →
       TellsAltered told word names status
-  records_altered unread same seats earlier given (Contradiction index line) stopped =
-      absurd (no_records same seats earlier given index line stopped)
-  records_altered unread same seats earlier given _ stopped = tt
+  records_altered unread w sound gives (Contradiction index line) stopped =
+      absurd (no_records told w.nodes [] names index line stopped)
+  records_altered unread w sound gives (BadRecord index line) stopped =
+      tells_not_served w sound told word names index line gives stopped
+  records_altered unread w sound gives _ stopped = tt
 
   module _ (w : World) (sound : IsSound w) (records : List Record)
       (given : GivesRecords told word names w records) where
@@ -125,6 +134,7 @@ module _ (told : Option (List NamedFile)) (word : List ℕ) (names : List (List 
           (exchanged_done w.table (native_act (behaviour_of w)) w.nodes sound.opens
           (sound_keeps w sound) x.runs x.exchanged));
     }
+    told_altered (BadRecord index line) bad = absurd (no_fault bad.fault index line bad.tells)
     told_altered _ bad = tt
 
     -- so it is of what is answered
@@ -138,6 +148,7 @@ module _ (told : Option (List NamedFile)) (word : List ℕ) (names : List (List 
   sink_told : (failed : Type 0) (status : Status) → Stops ⊥ failed (λ st. ⊥) status →
       TellsAltered told word names status
   sink_told failed (Contradiction index line) stopped = absurd stopped
+  sink_told failed (BadRecord index line) stopped = absurd stopped
   sink_told failed _ stopped = tt
 
   -- so it is of what is answered

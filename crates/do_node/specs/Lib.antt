@@ -10,4 +10,5 @@ pub mod Rewoven
 pub mod Answering
 pub mod Running
 pub mod Call
+pub mod ServedFiles
 pub mod Orders

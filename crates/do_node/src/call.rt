@@ -10,8 +10,9 @@ ghost use Rattle.do_cli.specs.declared.command.Command.TheVariants.{Leaks, Upgra
 ghost use Rattle.do_node.specs.Call.{CanWrite, HasUnread, IsRefusal, Refuses, Writes, WritesAll};
 ghost use Rattle.do_node.specs.{Call.{WritesNothing, WritesSome}, OneMachine.AddsAsOne};
 ghost use Rattle.do_node.specs.{Leaking.TellsLost, Orders.{AnswersAltered, HaveNoOrder, HaveOrder}};
-ghost use Rattle.do_node.specs.{Rewoven.GivesBack, Running.{EndsWith, IsRunEnd, Links, Spawns}};
-ghost use Rattle.do_node.specs.{Running.{link_seen, spawner_seen}, Upgrading.IsReplayedAlike};
+ghost use Rattle.do_node.specs.Rewoven.{GivesBack};
+ghost use Rattle.do_node.specs.Running.{EndsWith, IsRunEnd, Links, Spawns, link_seen, spawner_seen};
+ghost use Rattle.do_node.specs.Upgrading.{IsReplayedAlike};
 
 use crate::answering::obey;
 use do_base::{Shelf, Sink, Word};
@@ -122,7 +123,8 @@ pub fn run<H: Shelf, K: Sink, L: Link, P: Spawner>(
 
     // That `weave` finds an order of the records' inputs, and a contradiction exactly where none
     // does what the records say. Where it answers so, they are not those of nodes that exchanged
-    // their bytes unchanged.
+    // their bytes unchanged. Where it answers that a file is no record, not all files up to that
+    // one are what nodes of the world wrote that served, each of another, with steps few enough.
     ensures ordered { (world : List ℕ) (records : List (List ℕ)) (text : List ℕ)
         → Writes (H.files shelf.old) (Weave world records) text
         → HaveOrder (H.files shelf.old) world records }

@@ -89,11 +89,13 @@ pub returns-in-Err-clause-altered : goal.returns-in-Err-clause-altered
 returns-in-Err-clause-altered g c =
     world_altered _ c.args.word.now c.args.names.now _ c.in-Err.status c.in-Err.ensures.stopped
 
--- nor is a record
+-- where a file is no record, not all were written by nodes that served
 pub returns-in-Err-records_given-clause-altered : goal.returns-in-Err-records_given-clause-altered
 returns-in-Err-records_given-clause-altered g c =
     let ended = c.in-Err-records_given in
-    records_altered _ c.args.word.now c.args.names.now _ _ _ _ _ ended.status ended.ensures.stopped
+    records_altered _ c.args.word.now c.args.names.now _ c.in-Ok.world c.in-Ok.ensures.sound
+    c.in-Ok.ensures.gives ended.status
+    (rw (c.in-Ok.ensures.same, c.as_slice.ensures, c.new-none.ensures) at ended.ensures.stopped)
 
 -- records that contradict are altered
 pub returns-clause-altered : goal.returns-clause-altered
