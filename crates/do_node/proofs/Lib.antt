@@ -17,3 +17,4 @@ pub mod RunsCome
 pub mod NodesCome
 pub mod ServedRead
 pub mod OrdersKept
+pub mod KeptWithin

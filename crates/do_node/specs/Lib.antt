@@ -12,3 +12,4 @@ pub mod Running
 pub mod Call
 pub mod ServedFiles
 pub mod Orders
+pub mod Within

@@ -2,7 +2,7 @@
 ghost use Rattle.std.specs.Prelude.{◌≡◌, ◌≤◌};
 ghost use Rattle.do_cli.specs.Forms.{records_in};
 ghost use Rattle.do_node.specs.{Answering.answer_of, Call.Comes, OneMachine.AddsAsOne};
-ghost use Rattle.do_node.specs.Orders.{AnswersAltered};
+ghost use Rattle.do_node.specs.{Orders.AnswersAltered, Within.RanWithin};
 ghost use Rattle.do_node.specs.Running.{Links, Spawns, link_seen, spawner_seen};
 
 use crate::commands::{
@@ -52,6 +52,8 @@ pub(crate) fn obey<
     ensures one_machine { AddsAsOne (H.files shelf.old) (K.written out.old) (K.written out.new)
         (result ≡ Status.Ok) command }
     ensures altered { AnswersAltered (H.files shelf.old) result command }
+    ensures within { RanWithin (H.files shelf.old) (K.written out.old) (K.written out.new) result
+        command }
     ensures links { Links (H.files shelf.old)
         (record { before = H.faults shelf.old; now = H.faults shelf.new })
         (link_seen L.told L.faults K.written K.faults link.old out.old)

@@ -12,7 +12,7 @@ ghost use Rattle.do_node.specs.{Call.{WritesNothing, WritesSome}, OneMachine.Add
 ghost use Rattle.do_node.specs.{Leaking.TellsLost, Orders.{AnswersAltered, HaveNoOrder, HaveOrder}};
 ghost use Rattle.do_node.specs.Rewoven.{GivesBack};
 ghost use Rattle.do_node.specs.Running.{EndsWith, IsRunEnd, Links, Spawns, link_seen, spawner_seen};
-ghost use Rattle.do_node.specs.Upgrading.{IsReplayedAlike};
+ghost use Rattle.do_node.specs.{Upgrading.IsReplayedAlike, Within.RanWithin};
 
 use crate::answering::obey;
 use do_base::{Shelf, Sink, Word};
@@ -132,6 +132,11 @@ pub fn run<H: Shelf, K: Sink, L: Link, P: Spawner>(
         → Refuses (H.files shelf.old) (Weave world records) (statuses.Contradiction index line)
         → HaveNoOrder (H.files shelf.old) world records }
     ensures altered { IfSome (command_in words.now) (AnswersAltered (H.files shelf.old) result) }
+
+    // That no frame of a schedule that ran lacks a spelling, and that no number of a node passes
+    // what a frame can hold: so none of these is why memory ran out.
+    ensures within { IfSome (command_in words.now) (RanWithin (H.files shelf.old)
+        (K.written out.old) (K.written out.new) result) }
 
     ensures same { H.files shelf.new ≡ H.files shelf.old }
     ensures shelf_faults { H.faults shelf.old ≤ H.faults shelf.new }

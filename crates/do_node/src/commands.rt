@@ -3,7 +3,7 @@ ghost use Rattle.std.specs.Prelude.{◌≡◌, ◌≤◌, ◌⊎◌, OnOk, IfErr
 ghost use Rattle.do_base.specs.outside.{Bytes.{with_more, HasWritten}, Causes.Rose};
 ghost use Rattle.do_cli.specs.declared.command.Command.TheVariants.{Replay, Leaks, Weave, Upgrade};
 ghost use Rattle.do_cli.specs.Help.{help_text, version_text};
-ghost use Rattle.do_node.specs.Call.{Obeys};
+ghost use Rattle.do_node.specs.{Answering.answer_of, Call.Obeys, Within.RanWithin};
 ghost use Rattle.do_given.specs.Reading.{Stops};
 ghost use Rattle.do_generate.specs.Generated.{generated};
 ghost use Rattle.do_world.specs.{Mesh.mesh_world, Sound.IsSound};
@@ -78,6 +78,8 @@ pub(crate) fn replay_given<S: Hosted<Acts = Native>, H: Shelf, K: Sink>(
         (record { before = K.faults out.old; now = K.faults out.new }) result }
     ensures one_machine { AddsAsOne (H.files shelf.old) (K.written out.old) (K.written out.new)
         (IsOk result) (Replay world.now schedule.now) }
+    ensures within { RanWithin (H.files shelf.old) (K.written out.old) (K.written out.new)
+        (answer_of result) (Replay world.now schedule.now) }
     ensures same { H.files shelf.new ≡ H.files shelf.old }
     ensures shelf_faults { H.faults shelf.old ≤ H.faults shelf.new }
     ensures sink_faults { K.faults out.old ≤ K.faults out.new }
@@ -121,6 +123,8 @@ pub(crate) fn leaks_given<S: Traced + Hosted<Acts = Native>, H: Shelf, K: Sink>(
         (record { before = H.faults shelf.old; now = H.faults shelf.new })
         (K.written out.old) (K.written out.new)
         (record { before = K.faults out.old; now = K.faults out.new }) result }
+    ensures within { RanWithin (H.files shelf.old) (K.written out.old) (K.written out.new)
+        (answer_of result) (Leaks world.now schedule.now) }
     ensures same { H.files shelf.new ≡ H.files shelf.old }
     ensures shelf_faults { H.faults shelf.old ≤ H.faults shelf.new }
     ensures sink_faults { K.faults out.old ≤ K.faults out.new }

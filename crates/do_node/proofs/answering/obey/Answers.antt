@@ -146,3 +146,41 @@ returns-in-Help-clause-altered g c = rw c.in-Help.is tt
 -- of the version
 pub returns-in-Version-clause-altered : goal.returns-in-Version-clause-altered
 returns-in-Version-clause-altered g c = rw c.in-Version.is tt
+
+-- a schedule that is replayed stays within what frames can spell
+pub returns-in-Replay-clause-within : goal.returns-in-Replay-clause-within
+returns-in-Replay-clause-within g c =
+    rw c.in-Replay.is (rw c.answer_of.ensures c.replay_given.ensures.within)
+
+-- so does one after which is looked for what nothing can reach
+pub returns-in-Leaks-clause-within : goal.returns-in-Leaks-clause-within
+returns-in-Leaks-clause-within g c =
+    rw c.in-Leaks.is (rw c.answer_of-in-Leaks.ensures c.leaks_given.ensures.within)
+
+-- of no other command is this said: of woven records
+pub returns-in-Weave-clause-within : goal.returns-in-Weave-clause-within
+returns-in-Weave-clause-within g c = rw c.in-Weave.is tt
+
+-- of an upgraded schedule
+pub returns-in-Upgrade-clause-within : goal.returns-in-Upgrade-clause-within
+returns-in-Upgrade-clause-within g c = rw c.in-Upgrade.is tt
+
+-- of a summary
+pub returns-in-Make-clause-within : goal.returns-in-Make-clause-within
+returns-in-Make-clause-within g c = rw c.in-Make.is tt
+
+-- of a node that is served
+pub returns-in-Node-clause-within : goal.returns-in-Node-clause-within
+returns-in-Node-clause-within g c = rw c.in-Node.is tt
+
+-- of a plan
+pub returns-in-Lab-clause-within : goal.returns-in-Lab-clause-within
+returns-in-Lab-clause-within g c = rw c.in-Lab.is tt
+
+-- of the help
+pub returns-in-Help-clause-within : goal.returns-in-Help-clause-within
+returns-in-Help-clause-within g c = rw c.in-Help.is tt
+
+-- of the version
+pub returns-in-Version-clause-within : goal.returns-in-Version-clause-within
+returns-in-Version-clause-within g c = rw c.in-Version.is tt

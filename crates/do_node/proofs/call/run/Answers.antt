@@ -2,7 +2,8 @@ use Rattle.do_node.proofs.call.run.Goals as goal
 use Rattle.do_cli.specs.Forms.{command_in}
 use Rattle.do_node.proofs.{AsOneMachine.memory_adds, LeaksTold.leaks_told}
 use Rattle.do_node.proofs.OrdersKept.{memory_altered, no_order, some_order}
-use Rattle.do_node.proofs.{RecordsGiven.gives_back, Upgraded.replayed_alike}
+use Rattle.do_node.proofs.{KeptWithin.memory_within, RecordsGiven.gives_back}
+use Rattle.do_node.proofs.Upgraded.{replayed_alike}
 use Rattle.do_node.proofs.WordsRead.{memory_told, no_command, none_asked, usage_told}
 
 pub returns-in-Err-Usage-clause-usage : goal.returns-in-Err-Usage-clause-usage
@@ -95,3 +96,12 @@ returns-in-Err-Usage-clause-altered g c = none_asked c.args.words.now c.in-Err-U
 pub returns-in-Err-Memory-clause-altered : goal.returns-in-Err-Memory-clause-altered
 returns-in-Err-Memory-clause-altered g c =
     memory_altered (g.H.Shelf.files c.args.shelf.now) (command_in c.args.words.now)
+
+pub returns-in-Err-Usage-clause-within : goal.returns-in-Err-Usage-clause-within
+returns-in-Err-Usage-clause-within g c = none_asked c.args.words.now c.in-Err-Usage.word _
+    (rw c.in-Err-Usage.field-0-is at c.in-Err-Usage.ensures.usage)
+
+pub returns-in-Err-Memory-clause-within : goal.returns-in-Err-Memory-clause-within
+returns-in-Err-Memory-clause-within g c =
+    memory_within (g.H.Shelf.files c.args.shelf.now) (g.K.Sink.written c.args.out.now)
+    (command_in c.args.words.now)

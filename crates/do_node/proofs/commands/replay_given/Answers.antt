@@ -3,6 +3,7 @@ use Rattle.std.proofs.Common.{refl}
 use Rattle.do_cli.specs.declared.command.Command.TheVariants.{Replay}
 use Rattle.do_given.proofs.{FilesTold.no_err, Stopping.{must_be, must_give}}
 use Rattle.do_node.proofs.AsOneMachine.{adds_nothing, replay_adds}
+use Rattle.do_node.proofs.KeptWithin.{given_within, ran_tells, stopped_tells}
 use Rattle.do_node.proofs.Obeying.{obeys_stopping, obeys_writing}
 
 -- what was read is written
@@ -32,3 +33,16 @@ returns-in-Ok-clause-one_machine g c =
 
 pub returns-in-Err-clause-one_machine : goal.returns-in-Err-clause-one_machine
 returns-in-Err-clause-one_machine g c = adds_nothing _ _ c.in-Err.status
+
+-- what was read stays within what frames can spell
+pub returns-in-Ok-clause-within : goal.returns-in-Ok-clause-within
+returns-in-Ok-clause-within g c =
+    ran_tells _ _ (given_within (g.H.Shelf.files c.args.shelf.now) c.args.world.now
+    c.args.schedule.now c.in-Ok.given c.in-Ok.ensures.sound c.in-Ok.ensures.gives)
+    c.write_replay.result
+
+-- where it was not read, nothing was written
+pub returns-in-Err-clause-within : goal.returns-in-Err-clause-within
+returns-in-Err-clause-within g c =
+    stopped_tells _ _ _ _ (Replay c.args.world.now c.args.schedule.now) c.in-Err.status
+    c.in-Err.ensures.stopped refl
