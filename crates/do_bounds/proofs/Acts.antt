@@ -6,15 +6,17 @@ use Rattle.do_base.specs.declared.values.value.Value.{Value}
 use Rattle.do_class.specs.Class.{Class}
 use Rattle.do_sched.specs.Good.{IsPort}
 use Rattle.do_machine.specs.{Context.Context, Start.start_effect, State.is_open}
-use Rattle.do_machine.specs.declared.{node.Node.Node, state.Effect.Effect}
-use Rattle.do_machine.specs.ends.{Closing.{asked_of, closing, parted}, TimeOut.time_out}
-use Rattle.do_machine.specs.{run.Run.{Acting, run_effect}, take.Take.{can_take, take_effect}}
-use Rattle.do_facts.proofs.walk.Possible.{IfAny, by_begins, by_giving_up}
-use Rattle.do_facts.proofs.walk.SmallEffects.{settled_node}
+use Rattle.do_machine.specs.{declared.{node.Node.Node, state.Effect.Effect}, ends.Closing.asked_of}
+use Rattle.do_machine.specs.{ends.{Closing.{closing, parted}, TimeOut.time_out}, run.Run.Acting}
+use Rattle.do_machine.specs.{run.Run.run_effect, take.Take.{can_serve, can_take, take_effect}}
+use Rattle.do_facts.proofs.{Chains.first_of, walk.Possible.{IfAny, by_begins, by_giving_up}}
+use Rattle.do_facts.proofs.walk.SmallEffects.{by_closing, settled_node}
 use Rattle.do_network.specs.{Links.Part, Own.site_context, Site.{Handled, moves, site_step}}
 use Rattle.do_network.specs.declared.input.Done.TheVariants.{Moved}
 use Rattle.do_limits.specs.{Sendable.AreSendable, SendableActs.KeepsSendable}
-use Rattle.do_limits.proofs.moves.Inputs.{IsCarried, run_carried, start_carried, time_out_carried}
+use Rattle.do_limits.proofs.moves.Inputs.{IsCarried, run_carried, start_carried, take_carried}
+use Rattle.do_limits.{proofs.moves.Inputs.time_out_carried, specs.SendableStates.ItemIsSendable}
+use Rattle.do_limits.{specs.SendableStates.NodeIsSendable, proofs.Effects.EffectIsSendable}
 use Rattle.do_limits.proofs.{takes.Ends.closes, Senders.ContextIsSendable, Signatures.HasMethods}
 use Rattle.do_bounds.proofs.{Rises.{RisesBy, by_one}, Sites.{Came, Keeps, PartIsWithin, by_both}}
 use Rattle.do_bounds.proofs.Sites.{judges, moved, moved_if, tested}
@@ -24,6 +26,14 @@ pub closing_rises : (peer : ℕ) (n : Node) → RisesBy 0 n (closing peer n).nod
 closing_rises peer n =
     subst (RisesBy 0 n) (sym (settled_node (asked_of peer n) (parted peer n)))
     (record { call = omega arith; serial = omega arith; token = omega arith })
+
+-- closing an end tells only of lends that are over, and that the end is closed
+pub closing_within : (table : List Class) (port peer : ℕ) (n : Node) →
+    NodeIsSendable table port n → EffectIsSendable table port (closing peer n)
+closing_within table port peer n h =
+    let told = by_closing {G = λ m. Unit {0}} {E = ItemIsSendable table port}
+    (record { over = λ w m k. k; settles = λ w m o k. tt }) peer n tt tt in
+    record { node = closes peer n h; sent = told.sent }
 
 module _ (table : List Class) (few : HasMethods table) (p : Part) (at : IsPort p.own.node.port)
     (h : PartIsWithin table p.own.node.port p) where
@@ -48,7 +58,7 @@ module _ (table : List Class) (few : HasMethods table) (p : Part) (at : IsPort p
       IfAny (λ e. RisesBy 0 n e.node) found → IfAny (Keeps table n.port n 0) found
   steady found sends same =
       by_both (IsCarried c) (λ e. RisesBy 0 n e.node) (Keeps table n.port n 0)
-      (λ e x y. (x.0.node, y)) found sends same
+      (λ e x y. (x.0, y)) found sends same
 
   -- a run
   pub run_comes : (act : Acting) → KeepsSendable table act →
@@ -58,7 +68,7 @@ module _ (table : List Class) (few : HasMethods table) (p : Part) (at : IsPort p
       let sends = run_carried c few judged act keeps in
       moved_if table n.port 1 p h found
       (by_both (IsCarried c) (IsCarried c) (Keeps table n.port n 1)
-      (λ e x y. (x.0.node, by_one n e.node x.1)) found sends sends)
+      (λ e x y. (x.0, by_one n e.node x.1)) found sends sends)
 
   -- a start
   pub start_comes : (selector : List ℕ) (values : List Value) → AreSendable values →
@@ -80,7 +90,7 @@ module _ (table : List Class) (few : HasMethods table) (p : Part) (at : IsPort p
 
   -- what closing an end leaves
   closes_so : (peer : ℕ) → Keeps table n.port n 0 (closing peer n)
-  closes_so peer = (closes peer n h.own.values, closing_rises peer n)
+  closes_so peer = (closing_within table n.port peer n h.own.values, closing_rises peer n)
 
   -- a close
   pub close_comes : (act : Acting) (peer : ℕ) →
@@ -96,4 +106,7 @@ module _ (table : List Class) (few : HasMethods table) (p : Part) (at : IsPort p
   end_comes act peer =
       let e = take_effect c peer (items.End []) in
       tested table n.port 0 p h (not (can_take peer n)) (moves p e)
-      (λ can. moved table n.port n 0 p Moved p.own e h.links h.own.classes (closes_so peer))
+      (λ can.
+      let ends = first_of (is_open n peer) (can_serve n.stack) can in
+      let it = take_carried c few judged peer (items.End []) ends tt in
+      moved table n.port n 0 p Moved p.own e h.links h.own.classes (it.0, closing_rises peer n))

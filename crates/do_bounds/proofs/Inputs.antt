@@ -11,7 +11,7 @@ use Rattle.do_network.specs.declared.input.Input.{Input}
 use Rattle.do_limits.specs.{Numbers.{HasSmallNumbers, NumbersWithin}, SendableActs.KeepsSendable}
 use Rattle.do_limits.proofs.{numbers.Few.few_small, Effects.blank_sendable, Selectors.has_methods}
 use Rattle.do_limits.proofs.Signatures.{HasMethods}
-use Rattle.do_bounds.specs.Bounds.{IsWithin, MayCome, makers, may_make, site_after}
+use Rattle.do_bounds.specs.Bounds.{IsWithin, MayCome, SendsWithin, makers, may_make, site_after}
 use Rattle.do_bounds.proofs.Acts.{close_comes, end_comes, run_comes, start_comes, time_out_comes}
 use Rattle.do_bounds.proofs.{Classes.none_kept, Links.links_open, Sites.{Came, PartIsWithin}}
 use Rattle.do_bounds.proofs.{Rises.further, Taken.taken_comes}
@@ -99,3 +99,10 @@ module _ (table : List Class) (act : Acting) (ports : List ℕ) (seat : Seat) (i
   -- which are small where runs and frames are few
   pub numbers_small : makers inputs < 70368744177664 → HasSmallNumbers after.own.node
   numbers_small few = few_small (makers inputs) after.own.node few numbers_within
+
+  -- and what it sends for one more input
+  pub sends_within : (input : Input) → MayCome input →
+      AllByRecursion (SendsWithin table seat.node) (site_step table act after input).sent
+  sends_within input may =
+      (step_comes table t (has_methods table t signed) act keeps seat.node is.port input may after
+      both.0).sends

@@ -2,6 +2,7 @@ pub mod Frames
 pub mod Classes
 pub mod Links
 pub mod Rises
+pub mod Sent
 pub mod Sites
 pub mod Acts
 pub mod Taken

@@ -1,17 +1,18 @@
 -- What an input leaves of a site that is within the limits.
 use Rattle.std.proofs.Common.{Bool, List, [], arith, cond, false, refl, subst, sym, true, ℕ, ◌≡◌}
-use Rattle.std.specs.Prelude.{None, Option, Some, option_map, unwrap_or}
+use Rattle.std.specs.{List.AllByRecursion, Prelude.{None, Option, Some, option_map, unwrap_or}}
 use Rattle.do_class.specs.Class.{Class}
 use Rattle.do_sched.specs.Good.{IsPort}
 use Rattle.do_machine.specs.{declared.{node.Node.Node, state.Effect.Effect}, held.Leaving.leaving}
-use Rattle.do_facts.proofs.walk.Possible.{IfAny}
-use Rattle.do_network.specs.{Counting.{counted, of_known}, Links.Part, Own.{Own, is_counted}}
-use Rattle.do_network.specs.{Own.site_context, Site.{Handled, handled, moves, passed, site_move}}
-use Rattle.do_network.specs.declared.input.Done.{Done, TheVariants.Moved}
-use Rattle.do_limits.proofs.{Senders.ContextIsSendable, states.States.leaving_sendable}
-use Rattle.do_limits.specs.SendableStates.{NodeIsSendable}
+use Rattle.do_facts.proofs.{EachOfLists.each_joined, walk.Possible.IfAny}
+use Rattle.do_network.specs.{Counting.{counted, of_known}, Frames.all_posted, Links.Part, Own.Own}
+use Rattle.do_network.specs.{Own.{is_counted, site_context}, Site.{Handled, handled, moves, passed}}
+use Rattle.do_network.specs.{Site.site_move, declared.input.Done.{Done, TheVariants.Moved}}
+use Rattle.do_limits.proofs.{Effects.EffectIsSendable, Senders.ContextIsSendable}
+use Rattle.do_limits.{proofs.states.States.leaving_sendable, specs.SendableStates.NodeIsSendable}
 use Rattle.do_bounds.proofs.{Classes.{ClassesStand, known_kept}, Links.{LinksStand, links_sent}}
-use Rattle.do_bounds.{proofs.Rises.RisesBy, specs.Bounds.IsWithin}
+use Rattle.do_bounds.{proofs.Rises.RisesBy, specs.Bounds.{IsWithin, SendsWithin}}
+use Rattle.do_bounds.proofs.Sent.{Brings, all_bring, sent_within}
 
 module _ (table : List Class) (port : ℕ) where
   -- A site within the limits, whose tables of names read lately are such
@@ -34,10 +35,11 @@ module _ (table : List Class) (port : ℕ) where
   pub record Came (n : Node) (count : ℕ) (h : Handled) : Type 0 where
     pub part : PartIsWithin h.part
     pub rises : RisesBy count n h.part.own.node
+    pub sends : AllByRecursion (SendsWithin table port) h.sent
 
   -- an effect of a node that keeps the limits, and raises numbers so far
   abbrev pub Keeps : Node → ℕ → Effect → Type 0
-  Keeps n count e = NodeIsSendable table port e.node × RisesBy count n e.node
+  Keeps n count e = EffectIsSendable table port e × RisesBy count n e.node
 
   -- a move by an effect
   pub moved : (n : Node) (count : ℕ) (p : Part) (d : Done) (q : Own) (e : Effect) →
@@ -45,10 +47,12 @@ module _ (table : List Class) (port : ℕ) where
       Came n count (handled p d (site_move q e))
   moved n count p d q e links classes h =
       let entry = is_counted (counted q e) in
+      let left = leaving_sendable entry e.node h.0.node in
+      let r = (counted q e).received in
       record {
         part = record {
           own = record {
-            values = (leaving_sendable entry e.node h.0).node;
+            values = left.node;
             classes = known_kept table (leaving entry e.node).node (of_known e.node q.classes)
                 (known_kept table e.node q.classes classes);
           };
@@ -56,6 +60,12 @@ module _ (table : List Class) (port : ℕ) where
               (record { links = p.links; sent = [] }) links;
         };
         rises = record { call = h.1.call; serial = h.1.serial; token = h.1.token };
+        sends = sent_within table port (site_move q e).posted
+            (record { links = p.links; sent = [] })
+            (each_joined (Brings table port) (all_posted q.received e.sent)
+            (all_posted r (leaving entry e.node).sent)
+            (all_bring table port q.received e.sent h.0.sent)
+            (all_bring table port r (leaving entry e.node).sent left.sent)) tt;
       }
 
   -- an input that is skipped
@@ -63,6 +73,7 @@ module _ (table : List Class) (port : ℕ) where
   skipped count p h = record {
     part = h;
     rises = record { call = omega arith; serial = omega arith; token = omega arith };
+    sends = tt;
   }
 
   -- an effect, where there is one

@@ -20,8 +20,8 @@ use Rattle.do_network.specs.declared.fault.PeerFault.{PeerFault, TheVariants.Bad
 use Rattle.do_network.specs.declared.input.Done.TheVariants.{Closed, Moved}
 use Rattle.do_limits.specs.SendableStates.{ItemIsReadable, NodeIsSendable}
 use Rattle.do_limits.proofs.{Signatures.HasMethods, moves.Inputs.{IsCarried, take_carried}}
-use Rattle.do_limits.proofs.takes.Ends.{closes}
-use Rattle.do_bounds.{proofs.Acts.closing_rises, specs.Bounds.IsWithin}
+use Rattle.do_limits.proofs.Effects.{EffectIsSendable}
+use Rattle.do_bounds.{proofs.Acts.{closing_rises, closing_within}, specs.Bounds.IsWithin}
 use Rattle.do_bounds.proofs.{Classes.{ClassesStand, item_tells, more_kept}, Rises.{RisesBy, by_one}}
 use Rattle.do_bounds.proofs.{Frames.{frame_read, read_is}, Links.{LinksStand, links_read}}
 use Rattle.do_bounds.proofs.{Links.names_stand, Sites.{Came, PartIsWithin, judges, moved, tested}}
@@ -52,7 +52,7 @@ module _ (table : List Class) (few : HasMethods table) (p : Part) (at : IsPort p
       let up = subst (λ (x : Own). RisesBy 0 x.node e.node) same (closing_rises from n) in
       moved table to p.own.node 1 q (Closed from fault) q.own e links
       own.classes (
-        closes from n own.values,
+        closing_within table to from n own.values,
         record {
           call = omega (arith, up.call);
           serial = omega (arith, up.serial);
@@ -107,7 +107,7 @@ module _ (table : List Class) (few : HasMethods table) (p : Part) (at : IsPort p
         links
         (more_kept table (item_classes from item) q.classes
         (item_tells table from q.node.port at_from item brings) kept.classes) (
-          subst (λ x. NodeIsSendable table x e.node) home take_comes.0.node,
+          subst (λ x. EffectIsSendable table x e) home take_comes.0,
           subst (λ m. RisesBy 1 m e.node) (released_node from f p.own)
               (by_one q.node e.node take_comes.1),
         )

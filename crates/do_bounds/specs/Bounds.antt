@@ -5,9 +5,11 @@ use Rattle.do_grammar.specs.Grammar.{IsBytes}
 use Rattle.do_class.specs.{Class.Class, declared.ids.ClassId.ClassId}
 use Rattle.do_sched.specs.Good.{IsPort}
 use Rattle.do_machine.specs.run.Run.{Acting}
-use Rattle.do_network.specs.{Links.Part, Own.{Own, class_kept}, Site.site_step}
-use Rattle.do_network.specs.declared.input.Input.{Input, TheVariants.{Frame, Run, Start}}
-use Rattle.do_limits.specs.{Sendable.{AreSendable, IsOfTable}, SendableStates.NodeIsSendable}
+use Rattle.do_network.specs.{Frames.item_of, Links.{Framed, Greeting, Part, Piece, Sending}}
+use Rattle.do_network.specs.{Own.{Own, class_kept}, Site.site_step, declared.input.Input.Input}
+use Rattle.do_network.specs.declared.input.Input.TheVariants.{Frame, Run, Start}
+use Rattle.do_limits.specs.Sendable.{AreSendable, IsOfTable}
+use Rattle.do_limits.specs.SendableStates.{ItemIsSendable, NodeIsSendable}
 
 -- an input that may come to a node: a message can carry the values of a start, and a frame is of
 -- any bytes, and comes from a peer with a port
@@ -42,3 +44,12 @@ pub record IsWithin (table : List Class) (port : ℕ) (p : Own) : Type 0 where
   pub values : NodeIsSendable table port p.node
   pub classes : (o : ObjectName) (class : ClassId) → class_kept p o ≡ Some class →
       ClassStands table o class
+
+-- what goes to a peer is the greeting, or a frame of an item that keeps the limits of messages
+abbrev pub PieceIsWithin : List Class → ℕ → ℕ → Piece → Type 0
+PieceIsWithin table from to Greeting = Unit {0}
+PieceIsWithin table from to (Framed f spelled) = ItemIsSendable table from to (item_of f)
+
+-- so it is with what a port sends
+abbrev pub SendsWithin : List Class → ℕ → Sending → Type 0
+SendsWithin table port s = PieceIsWithin table port s.to s.piece

@@ -3,10 +3,10 @@ ghost use Rattle.std.specs.{List.AllByRecursion, Prelude.{All, List, ℕ, ◌<�
 ghost use Rattle.do_class.specs.{Class.Class, Table.IsTable};
 ghost use Rattle.do_machine.specs.{World.{HasSignatures, IsSeat}, declared.state.Seat.Seat};
 ghost use Rattle.do_machine.specs.run.Run.{Acting};
-ghost use Rattle.do_network.specs.{declared.input.Input.Input, Net.opening_part};
+ghost use Rattle.do_network.specs.{declared.input.Input.Input, Net.opening_part, Site.site_step};
 ghost use Rattle.do_limits.specs.Numbers.{HasSmallNumbers, NumbersWithin};
 ghost use Rattle.do_limits.specs.SendableActs.{KeepsSendable};
-ghost use Rattle.do_bounds.specs.Bounds.{IsWithin, MayCome, makers, site_after};
+ghost use Rattle.do_bounds.specs.Bounds.{IsWithin, MayCome, SendsWithin, makers, site_after};
 
 /// Whatever its peers send, each value of a slot, a local or an answer of a node can be carried by
 /// a message. Each object has the slots of its class, and each invocation its sixteen locals. The
@@ -37,4 +37,18 @@ pub fn numbers_of_nodes_are_bounded()
         (inputs : List Input) → IsTable table → All HasSignatures table → IsSeat table seat →
         KeepsSendable table act → AllByRecursion MayCome inputs → makers inputs < 2 ^ 46 →
         HasSmallNumbers (site_after table act (opening_part table ports seat) inputs).own.node }
+{}
+
+/// Whatever its peers send, each frame that a node sends for an input is of an item that keeps the
+/// limits of messages. A message has at most 4,096 copies and 65,536 names, its places are there
+/// and its values can be spelled. It takes no more bytes than the heaviest message may.
+///
+/// Premises are those of `nodes_stay_within_limits`.
+pub fn frames_of_nodes_stay_within_limits()
+    ensures { (table : List Class) (act : Acting) (ports : List ℕ) (seat : Seat)
+        (inputs : List Input) (input : Input) → IsTable table → All HasSignatures table →
+        IsSeat table seat → KeepsSendable table act → AllByRecursion MayCome inputs →
+        MayCome input → AllByRecursion (SendsWithin table seat.node)
+        (site_step table act (site_after table act (opening_part table ports seat) inputs)
+        input).sent }
 {}

@@ -11,4 +11,6 @@
 
 mod laws;
 
-pub use laws::{nodes_stay_within_limits, numbers_of_nodes_are_bounded};
+pub use laws::{
+    frames_of_nodes_stay_within_limits, nodes_stay_within_limits, numbers_of_nodes_are_bounded,
+};
