@@ -98,7 +98,10 @@ fn opening_own(
         part.own ≡ opening_own (opening_node table.now ports.now seat)) }
 {
     let mut part = Part::new(ports.allocator(), seat.node, peers)?;
-    set_root(&mut part, table, seat.root)?;
+    let Ok(()) = set_root(&mut part, table, seat.root) else {
+        drop(part);
+        return Err(AllocError);
+    };
     Ok(part)
 }
 
@@ -114,8 +117,14 @@ fn built(table: &ClassTable, seat: Seat, ports: &Peers) -> Result<Work, AllocErr
     if !are_apart(peers.as_slice()) {
         return Err(AllocError);
     }
-    let streams = Streams::new(alloc, &peers, table.count() as usize)?;
-    let part = opening_own(table, ports, seat, peers)?;
+    let Ok(streams) = Streams::new(alloc, &peers, table.count() as usize) else {
+        drop(peers);
+        return Err(AllocError);
+    };
+    let Ok(part) = opening_own(table, ports, seat, peers) else {
+        drop(streams);
+        return Err(AllocError);
+    };
     Ok(Work {
         core: Core { part, streams },
         told: Told::new(alloc),
@@ -133,7 +142,10 @@ pub fn opening(table: &ClassTable, seat: Seat, ports: &Peers) -> Result<Work, Al
     ensures places { IfOk result (λ work. CanSettle work) }
 {
     let mut work = built(table, seat, ports)?;
-    work.make_room(&Needs::to_tell(0))?;
+    let Ok(()) = work.make_room(&Needs::to_tell(0)) else {
+        drop(work);
+        return Err(AllocError);
+    };
     work.has_few();
     Ok(work)
 }

@@ -11,11 +11,11 @@ returns-clause-kept c =
     let table = c.args.table.now in
     let ports = c.args.ports.now in
     let seat = c.args.seat in
-    let own = c.in_ok-part.ensures in
+    let own = c.in-Ok-opening_own.ensures in
     record {
       tidy = subst IsTidy (sym own) (opened_tidy (opening_node table ports seat));
       apart = subst (λ (p : Own). is_open p.node p.node.port ≡ false) (sym own)
           (opened_apart table ports seat);
-      classes = ap (λ (s : Streamed). s.classes) c.in_ok-streams.ensures
+      classes = ap (λ (s : Streamed). s.classes) c.in-Ok.ensures
           ∙ c.count.ensures.value;
     }
