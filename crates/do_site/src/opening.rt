@@ -1,6 +1,8 @@
 //! A site as it opens.
 //!
-//! The ports that a site opens with may have its own among them, which is left out.
+//! The ports that a site opens with may have its own among them, which is left out. Where memory
+//! runs out, what was built so far is dropped in an arm of its own. By `?` the proof would follow
+//! each field of it behind each call.
 ghost use Rattle.std.specs.Prelude.{◌≡◌, ◌≤◌, ◌==◌, ◌∷◌, [], ℕ, IfOk, IsTrue, OnOk, Some, length};
 ghost use Rattle.std.specs.List.{IsDistinct, list_any};
 ghost use Rattle.do_machine.specs.{World.{opening_node, others}, run.Fresh.{blank, with_objects}};
