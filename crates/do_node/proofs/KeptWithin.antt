@@ -3,9 +3,9 @@
 use Rattle.do_given.specs.declared.status.Status.TheVariants as answer
 use Rattle.std.proofs.Common.{◌≡◌, ◌++◌, ◌<◌, ◌≤◌, ℕ, List, None, Option, Some, Result, Ok, Err, ap}
 use Rattle.std.proofs.Common.{arith, inl, inr, length, length-append, refl, subst, sym}
-use Rattle.std.specs.{List.{AllByRecursion, flat_map}, Prelude.IfSome}
+use Rattle.std.specs.{List.{AllByRecursion, flat_map}, Prelude.{IfSome, OnOk}}
 use Rattle.do_base.specs.declared.{events.event.Event.Event, outside.shelf.NamedFile.NamedFile}
-use Rattle.do_cli.specs.declared.command.Command.{Command, TheVariants.{Leaks, Replay}}
+use Rattle.do_cli.specs.declared.command.Command.{Command, TheVariants.{Leaks, Make, Replay, Weave}}
 use Rattle.do_facts.proofs.EachOfLists.{each_former}
 use Rattle.do_given.specs.{Parts.behaviour_of, Reading.{GivesScheduled, Stops}}
 use Rattle.do_given.specs.declared.{scheduled.Scheduled.Scheduled, status.Status.Status}
@@ -15,9 +15,10 @@ use Rattle.do_native.specs.Acts.{native_act}
 use Rattle.do_sched.specs.{Good.IsLine, Schedule.most_steps, Spelling.steps_of}
 use Rattle.do_sched.specs.declared.line.Line.{Line}
 use Rattle.do_within.proofs.schedules.{Few.{few_events, schedules_spelled}, Numbers.numbers_small}
+use Rattle.do_within.proofs.schedules.Walk.{from_opening}
 use Rattle.do_world.specs.{Sound.IsSound, declared.world.World.World}
 use Rattle.do_node.specs.{Answering.answer_of, Call.Refuses}
-use Rattle.do_node.specs.Within.{GivesWithin, RanWithin, StaysWithin, WhereRan}
+use Rattle.do_node.specs.Within.{GivesWithin, IsBounded, RanWithin, StaysWithin, WhereRan}
 use Rattle.do_node.proofs.{RefusalsTold.stops_not_ok, ServedRead.sound_keeps}
 
 -- lines that may stand in a file stay within this over a world that was read
@@ -51,6 +52,18 @@ given_within told word name given sound gives = record {
       gives.says.is_read.few;
 }
 
+-- so does all that is done over a world that was read
+pub world_bounded : (w : World) → IsSound w → IsBounded w
+world_bounded w sound =
+    let act = native_act (behaviour_of w) in
+    let keeps = sound_keeps w sound in
+    record {
+      spelled = λ events starts few.
+          (from_opening w.table act w.nodes sound.opens keeps events starts few).0;
+      small = λ events starts few.
+          numbers_small w.table act w.nodes sound.opens keeps events starts few;
+    }
+
 -- ---- what an answer tells of it
 
 module _ (holds nothing : Type 0) where
@@ -66,6 +79,12 @@ module _ (holds nothing : Type 0) where
       WhereRan holds nothing (answer_of result)
   ran_tells h (Ok done) = h
   ran_tells h (Err status) = any_tells h status
+
+-- what holds is told where all went well
+pub ok_tells : {T : Type 0} (holds : Type 0) → holds → (result : Result T Status) →
+    OnOk result holds
+ok_tells holds h (Ok x) = h
+ok_tells holds h (Err status) = tt
 
 -- where nothing was given, nothing was done
 pub stopped_tells : (holds unread nothing : Type 0) (told : Option (List NamedFile))
@@ -83,4 +102,6 @@ pub memory_within : (told : Option (List NamedFile)) (old : Option (List ℕ))
 memory_within told old None = tt
 memory_within told old (Some (Replay world schedule)) = inl refl
 memory_within told old (Some (Leaks world schedule)) = inl refl
+memory_within told old (Some (Weave world names)) = inl refl
+memory_within told old (Some (Make number count)) = inl refl
 memory_within told old (Some _) = tt

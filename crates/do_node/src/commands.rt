@@ -3,7 +3,8 @@ ghost use Rattle.std.specs.Prelude.{◌≡◌, ◌≤◌, ◌⊎◌, OnOk, IfErr
 ghost use Rattle.do_base.specs.outside.{Bytes.{with_more, HasWritten}, Causes.Rose};
 ghost use Rattle.do_cli.specs.declared.command.Command.TheVariants.{Replay, Leaks, Weave, Upgrade};
 ghost use Rattle.do_cli.specs.Help.{help_text, version_text};
-ghost use Rattle.do_node.specs.{Answering.answer_of, Call.Obeys, Within.RanWithin};
+ghost use Rattle.do_node.specs.{Answering.answer_of, Call.Obeys};
+ghost use Rattle.do_node.specs.Within.{IsBounded, RanWithin, WhereRan};
 ghost use Rattle.do_given.specs.Reading.{Stops};
 ghost use Rattle.do_generate.specs.Generated.{generated};
 ghost use Rattle.do_world.specs.{Mesh.mesh_world, Sound.IsSound};
@@ -150,6 +151,8 @@ pub(crate) fn write_woven<S: Hosted<Acts = Native>, H: Shelf, K: Sink>(
         (K.written out.old) (K.written out.new)
         (record { before = K.faults out.old; now = K.faults out.new }) result }
     ensures altered { IfErr result (TellsAltered (H.files shelf.old) world.now files.now) }
+    ensures within { RanWithin (H.files shelf.old) (K.written out.old) (K.written out.new)
+        (answer_of result) (Weave world.now files.now) }
     ensures same { H.files shelf.new ≡ H.files shelf.old }
     ensures shelf_faults { H.faults shelf.old ≤ H.faults shelf.new }
     ensures sink_faults { K.faults out.old ≤ K.faults out.new }
@@ -217,6 +220,8 @@ pub(crate) fn write_made<S: Hosted<Acts = Native>, K: Sink>(
     ensures one_machine { OnOk result (ComesAsOne mesh_world (generated count number)) }
     ensures one_machine_first { (K.written out.new ≡ K.written out.old)
         ⊎ ComesAsOne mesh_world (generated count number) }
+    ensures within { WhereRan (IsBounded mesh_world) (K.written out.new ≡ K.written out.old)
+        (answer_of result) }
     ensures stopped { IfErr result
         (Stops ⊥ (Rose (K.faults out.old) (K.faults out.new)) (λ _. ⊥)) }
     ensures later { K.faults out.old ≤ K.faults out.new }

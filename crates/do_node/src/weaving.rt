@@ -1,5 +1,5 @@
 ghost use Rattle.do_given.specs.declared.status.Status as declared;
-ghost use Rattle.std.specs.Prelude.{◌≡◌, ◌≤◌, ℕ, List, Ok, Err, IfOk, IfErr, Some, length};
+ghost use Rattle.std.specs.Prelude.{◌≡◌, ◌≤◌, ℕ, List, Ok, Err, IfOk, IfErr, OnOk, Some, length};
 ghost use Rattle.do_base.specs.declared.outside.shelf.NamedFile.{NamedFile};
 ghost use Rattle.do_sched.specs.Schedule.{most_steps};
 ghost use Rattle.do_woven.specs.Steps.{steps_in};
@@ -7,6 +7,7 @@ ghost use Rattle.do_world.specs.Sound.{IsSound};
 ghost use Rattle.do_given.specs.Reading.{OrMemory, OrUnread, Stops};
 ghost use Rattle.do_node.specs.{Orders.TellsAltered, Weaving.{Contradicts, HasUnreadPart, IsWoven}};
 ghost use Rattle.do_node.specs.Weaving.{RefusesWeaving, WeavesTo, told_of_weaving};
+ghost use Rattle.do_node.specs.Within.{GivesBounded};
 
 use crate::networks::world_net;
 use crate::records::records_given;
@@ -75,6 +76,7 @@ pub(crate) fn woven_given<S: Hosted<Acts = Native>, H: Shelf>(
         → RefusesWeaving (Some files) word.now names.now status
         → OrUnread (Err status) result }
     ensures altered { IfErr result (TellsAltered (H.files shelf.old) word.now names.now) }
+    ensures bounded { OnOk result (GivesBounded (H.files shelf.old) word.now) }
     ensures same { H.files shelf.new ≡ H.files shelf.old }
     ensures later { H.faults shelf.old ≤ H.faults shelf.new }
 {

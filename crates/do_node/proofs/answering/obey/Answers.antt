@@ -157,17 +157,19 @@ pub returns-in-Leaks-clause-within : goal.returns-in-Leaks-clause-within
 returns-in-Leaks-clause-within g c =
     rw c.in-Leaks.is (rw c.answer_of-in-Leaks.ensures c.leaks_given.ensures.within)
 
--- of no other command is this said: of woven records
+-- so does all that is done over a world for records
 pub returns-in-Weave-clause-within : goal.returns-in-Weave-clause-within
-returns-in-Weave-clause-within g c = rw c.in-Weave.is tt
+returns-in-Weave-clause-within g c =
+    rw c.in-Weave.is (rw c.answer_of-in-Weave.ensures c.write_woven.ensures.within)
 
--- of an upgraded schedule
+-- and over that of the mesh
+pub returns-in-Make-clause-within : goal.returns-in-Make-clause-within
+returns-in-Make-clause-within g c =
+    rw c.in-Make.is (rw c.answer_of-in-Make.ensures c.write_made.ensures.within)
+
+-- of no other command is this said: of an upgraded schedule
 pub returns-in-Upgrade-clause-within : goal.returns-in-Upgrade-clause-within
 returns-in-Upgrade-clause-within g c = rw c.in-Upgrade.is tt
-
--- of a summary
-pub returns-in-Make-clause-within : goal.returns-in-Make-clause-within
-returns-in-Make-clause-within g c = rw c.in-Make.is tt
 
 -- of a node that is served
 pub returns-in-Node-clause-within : goal.returns-in-Node-clause-within

@@ -1,6 +1,8 @@
 use Rattle.do_node.proofs.commands.write_woven.Goals as goal
+use Rattle.std.proofs.Common.{refl}
 use Rattle.do_cli.specs.declared.command.Command.TheVariants.{Weave}
 use Rattle.do_given.proofs.{FilesTold.no_err, Stopping.{must_be, must_give}}
+use Rattle.do_node.proofs.KeptWithin.{ran_tells, stopped_tells}
 use Rattle.do_node.proofs.{Obeying.{obeys_stopping, obeys_writing}, OrdersKept.sink_altered}
 
 pub returns-in-Ok-clause-obeys : goal.returns-in-Ok-clause-obeys
@@ -24,3 +26,11 @@ returns-in-Ok-clause-altered g c =
 
 pub returns-in-Err-clause-altered : goal.returns-in-Err-clause-altered
 returns-in-Err-clause-altered g c = c.in-Err.ensures.altered
+
+pub returns-in-Ok-clause-within : goal.returns-in-Ok-clause-within
+returns-in-Ok-clause-within g c = ran_tells _ _ c.in-Ok.ensures.bounded c.write_text.result
+
+pub returns-in-Err-clause-within : goal.returns-in-Err-clause-within
+returns-in-Err-clause-within g c =
+    stopped_tells _ _ _ _ (Weave c.args.world.now c.args.files.now) c.in-Err.status
+    c.in-Err.ensures.stopped refl

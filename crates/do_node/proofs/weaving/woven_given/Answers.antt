@@ -1,9 +1,9 @@
 use Rattle.do_node.proofs.weaving.woven_given.Goals as goal
 use Rattle.std.proofs.Common.{◌∙◌, Ok}
-use Rattle.do_node.proofs.OrdersKept.{records_altered, world_altered, woven_altered}
-use Rattle.do_node.proofs.WovenTold.{contradiction_stops, records_refuse, records_stop}
-use Rattle.do_node.proofs.WovenTold.{records_stop_text, woven_here, woven_refuses, world_refuses}
-use Rattle.do_node.proofs.WovenTold.{world_stops}
+use Rattle.do_node.proofs.{KeptWithin.{ok_tells, world_bounded}, OrdersKept.records_altered}
+use Rattle.do_node.proofs.{OrdersKept.{world_altered, woven_altered}, WovenTold.contradiction_stops}
+use Rattle.do_node.proofs.WovenTold.{records_refuse, records_stop, records_stop_text, woven_here}
+use Rattle.do_node.proofs.WovenTold.{woven_refuses, world_refuses, world_stops}
 use Rattle.do_given.proofs.Stopping.{give_any}
 
 -- where no world was read, the world stops it
@@ -106,3 +106,12 @@ returns-clause-altered g c =
       gives = c.in-Ok.ensures.gives;
       say = rw (c.in-Ok.ensures.same, c.as_slice.ensures, c.new-none.ensures) at read.ensures.says;
     }) _ c.woven_text.ensures.stopped
+
+-- all that was done stays within what frames can spell
+pub returns-clause-bounded : goal.returns-clause-bounded
+returns-clause-bounded g c =
+    ok_tells _ (record {
+      world = c.in-Ok.world;
+      gives = c.in-Ok.ensures.gives;
+      bounded = world_bounded c.in-Ok.world c.in-Ok.ensures.sound;
+    }) c.woven_text.result
