@@ -1,7 +1,6 @@
 -- That what runs of a schedule stays within what frames can spell and nodes can count.
 use Rattle.do_given.specs.declared.status.Status.TheVariants as answer
-use Rattle.std.specs.Prelude.{List, Option, length, ◌++◌, ◌<◌, ◌^◌, ◌≡◌, ◌⊎◌, ℕ}
-use Rattle.std.specs.List.{flat_map}
+use Rattle.std.specs.{Prelude.{List, Option, length, ◌++◌, ◌<◌, ◌^◌, ◌≡◌, ◌⊎◌, ℕ}, List.flat_map}
 use Rattle.do_agreement.specs.Along.{EventsSendSpelled, LinesSendSpelled}
 use Rattle.do_base.specs.declared.{events.event.Event.Event, outside.shelf.NamedFile.NamedFile}
 use Rattle.do_cli.specs.declared.command.Command.{Command, TheVariants.{Leaks, Make, Replay, Weave}}
