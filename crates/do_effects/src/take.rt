@@ -28,6 +28,7 @@ fn is_granted(item: &Item) -> bool
 /// An ask is over: the object is held where it was granted.
 fn end_ask(part: &mut Part, wanted: &Wanted, granted: bool)
     requires names { 0 < part.old.room.names }
+    requires entries { 0 < part.old.room.entries }
     requires asked { granted ≡ true
         → list_any (same_wanted wanted.now) part.old.own.node.asked ≡ true }
     ensures { part.new.own ≡ ended_own granted wanted.now part.old.own }

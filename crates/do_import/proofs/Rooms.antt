@@ -98,8 +98,8 @@ len_others m home = omega (
         ∙ ap is_some (get-entries (others_of m home) q) ∙ h)
 
 -- where there is room, the thread has more room than objects were received
-pub room_of : (a b c d : ℕ) → 0 < min a (min b (c - d)) → d < c
-room_of a b c d h = omega (arith, h)
+pub room_of : (a c d : ℕ) → 0 < min a (c - d) → d < c
+room_of a c d h = omega (arith, h)
 
 -- nothing was received or is used, and there is no thread
 pub empty_roomy : (received uses : Counts) (es : List Row) (spare : ℕ) → received ≡ map.empty
@@ -125,11 +125,10 @@ pub one_off : (b : Bool) (a c : ℕ) → c + cond b 0 1 ≡ a → a ≤ c + 1
 one_off true a c e = omega (arith, e)
 one_off false a c e = omega (arith, e)
 
--- the least of three falls by one at most, where each does
-pub min_falls : (a b e x y z : ℕ) → a ≤ x + 1 → b ≤ y + 1 → e ≤ z + 1
-    → min a (min b e) ≤ min x (min y z) + 1
-min_falls a b e x y z p q r = omega (arith, p, q, r)
+-- the lesser of two falls by one at most, where each does
+pub min_falls : (a b x y : ℕ) → a ≤ x + 1 → b ≤ y + 1 → min a b ≤ min x y + 1
+min_falls a b x y p q = omega (arith, p, q)
 
--- the least of three does not fall, where none does
-pub min_keeps : (a b e x y z : ℕ) → a ≤ x → b ≤ y → e ≤ z → min a (min b e) ≤ min x (min y z)
-min_keeps a b e x y z p q r = omega (arith, p, q, r)
+-- the lesser of two does not fall, where neither does
+pub min_keeps : (a b x y : ℕ) → a ≤ x → b ≤ y → min a b ≤ min x y
+min_keeps a b x y p q = omega (arith, p, q)

@@ -5,20 +5,21 @@ use Rattle.std.specs.{Prelude.{is_some, refl}, Coded.{Coded, code_by, coded×, c
 use Rattle.std.specs.{FinMap.{find, is_sorted}, declared.cmp.Ordering.TheVariants.Less}
 use Rattle.do_export.specs.Counts.{Counts, IsPositive, entry_cmp}
 
--- how often each foreign object was received and is used, and how many more fit with no memory
--- taken
+-- how often each foreign object was received and is used, how many more can be used with no memory
+-- taken, and how many more be received
 pub record Held : Type 0 where
   pub received : Counts
   pub uses : Counts
   pub spare : ℕ
+  pub places : ℕ
 
 -- how the counts are coded, with their room
 abbrev pub held_code : Coded Held
-held_code = code_by (Counts × (Counts × ℕ))
+held_code = code_by (Counts × (Counts × (ℕ × ℕ)))
     (coded× (map.code (coded× coded_ℕ coded_ℕ) coded_ℕ)
-    (coded× (map.code (coded× coded_ℕ coded_ℕ) coded_ℕ) coded_ℕ))
-    (λ h. (h.received, (h.uses, h.spare)))
-    (λ p. record { received = p.0; uses = p.1.0; spare = p.1.1 }) (λ _. refl)
+    (coded× (map.code (coded× coded_ℕ coded_ℕ) coded_ℕ) (coded× coded_ℕ coded_ℕ)))
+    (λ h. (h.received, (h.uses, (h.spare, h.places))))
+    (λ p. record { received = p.0; uses = p.1.0; spare = p.1.1.0; places = p.1.1.1 }) (λ _. refl)
 
 -- an object may leave that was received and is not used
 abbrev pub may_leave : Counts → Counts → ℕ × ℕ → Bool

@@ -14,7 +14,9 @@ abbrev pub LendMap : Type 0
 LendMap = map.FinMap entry_cmp ObjectName
 
 -- `received`, `uses`, `named` and `asked` count objects: how often each was received and not given
--- back, how often it is used, how many lends and asks are of it, and how many asks alone
+-- back, how often it is used, how many lends and asks are of it, and how many asks alone. `spare` is
+-- how many more objects can be used with no memory taken, `links` how many more can be received, lent
+-- and asked for.
 pub record Imported : Type 0 where
   pub own : ℕ
   pub received : Counts
@@ -26,6 +28,7 @@ pub record Imported : Type 0 where
   pub asks : AskMap
   pub classes : ClassMap
   pub spare : ℕ
+  pub links : ℕ
 
 -- how counts are coded
 abbrev counts_code : Coded Counts
@@ -34,15 +37,15 @@ counts_code = map.code (coded× coded_ℕ coded_ℕ) coded_ℕ
 -- how the counts and the rest of the imports are coded, one after the other
 abbrev pub imported_code : Coded Imported
 imported_code = code_by
-    ((ℕ × (Counts × (Counts × (Counts × Counts)))) × (LendMap × (ℕ × (AskMap × (ClassMap × ℕ)))))
+    ((ℕ × (Counts × (Counts × (Counts × Counts)))) × (LendMap × (ℕ × (AskMap × (ClassMap × (ℕ × ℕ))))))
     (coded× (coded× coded_ℕ (coded× counts_code (coded× counts_code
     (coded× counts_code counts_code))))
     (coded× (map.code (coded× coded_ℕ coded_ℕ) name_code) (coded× coded_ℕ
     (coded× (map.code (coded× (coded× coded_ℕ coded_ℕ) (coded× coded_ℕ coded_ℕ)) class_code)
-    (coded× (map.code (coded× coded_ℕ coded_ℕ) class_code) coded_ℕ)))))
+    (coded× (map.code (coded× coded_ℕ coded_ℕ) class_code) (coded× coded_ℕ coded_ℕ))))))
     (λ i. (
       (i.own, (i.received, (i.uses, (i.named, i.asked)))),
-      (i.lends, (i.next, (i.asks, (i.classes, i.spare)))),
+      (i.lends, (i.next, (i.asks, (i.classes, (i.spare, i.links))))),
     ))
     (λ p. record {
       own = p.0.0;
@@ -54,10 +57,11 @@ imported_code = code_by
       next = p.1.1.0;
       asks = p.1.1.1.0;
       classes = p.1.1.1.1.0;
-      spare = p.1.1.1.1.1;
+      spare = p.1.1.1.1.1.0;
+      links = p.1.1.1.1.1.1;
     }) (λ _. refl)
 
--- what the parts show together: the room is the least of theirs
+-- what the parts show together: the room for links is the least of theirs
 abbrev pub imported_of : ℕ → Held → Rows ℕ → Rows ℕ → Lent → Asked → Rows ClassId → Imported
 imported_of own held named asked lent asks classes = record {
   own = own;
@@ -69,7 +73,8 @@ imported_of own held named asked lent asks classes = record {
   next = lent.next;
   asks = asks.asks;
   classes = classes.rows;
-  spare = min held.spare (min named.spare (min asked.spare
+  spare = held.spare;
+  links = min held.places (min named.spare (min asked.spare
       (min lent.spare (min asks.spare classes.spare))));
 }
 

@@ -36,8 +36,9 @@ impl Model for Holdings {
     ghost view = { λ h. record {
       received = h.received.counts;
       uses = h.uses.counts;
-      spare = min h.received.spare (min h.uses.spare
-          (length h.thread.rows + h.thread.spare - map.len h.received.counts));
+      spare = h.uses.spare;
+      places = min h.received.spare
+          (length h.thread.rows + h.thread.spare - map.len h.received.counts);
     } };
 
     ghost invariant = { λ i. IsRoomy i.received.counts i.uses.counts i.thread.rows i.thread.spare };
@@ -70,29 +71,38 @@ impl Holdings {
         }
     }
 
-    /// Makes room for `more` objects at least.
+    /// Makes room to use so many objects more at least, and to receive so many.
     ///
     /// If memory runs out, the counts are unchanged.
-    pub fn reserve(&mut self, more: u64) -> Result<(), AllocError>
+    pub fn reserve(&mut self, uses: u64, received: u64) -> Result<(), AllocError>
         ensures received { self.new.received ≡ self.old.received }
         ensures uses { self.new.uses ≡ self.old.uses }
-        ensures ok { OnOk result (more ≤ self.new.spare) }
-        ensures kept { self.old.spare ≤ self.new.spare }
+        ensures used { OnOk result (uses ≤ self.new.spare) }
+        ensures more { OnOk result (received ≤ self.new.places) }
+        ensures spare { self.old.spare ≤ self.new.spare }
+        ensures places { self.old.places ≤ self.new.places }
     {
-        let Some(threads) = more.checked_add(self.received.len()) else {
+        let Some(threads) = received.checked_add(self.received.len()) else {
             return Err(AllocError);
         };
-        self.received.reserve(more)?;
-        self.uses.reserve(more)?;
+        self.received.reserve(received)?;
+        self.uses.reserve(uses)?;
         self.thread.reserve(threads as usize)
     }
 
-    /// How many more objects can be received or used with no memory taken.
+    /// How many more objects can be used with no memory taken.
     pub fn spare(&self) -> u64
         ensures { result ≡ self.now.spare }
     {
+        self.uses.spare()
+    }
+
+    /// How many more objects can be received with no memory taken.
+    pub fn places(&self) -> u64
+        ensures { result ≡ self.now.places }
+    {
         let threads = self.thread.capacity() as u64 - self.received.len();
-        self.received.spare().min(self.uses.spare().min(threads))
+        self.received.spare().min(threads)
     }
 
     /// How many objects were received and not given back. Each was received once at least, and no
@@ -129,11 +139,12 @@ impl Holdings {
 
     /// Counts an object as received once more, in room that was made before.
     pub fn got(&mut self, oid: Oid)
-        requires room { 0 < self.old.spare }
+        requires room { 0 < self.old.places }
         requires small { count_of self.old.received oid.node oid.serial < 2 ^ 64 - 1 }
         ensures received { self.new.received ≡ raised self.old.received oid.node oid.serial }
         ensures uses { self.new.uses ≡ self.old.uses }
-        ensures spare { self.old.spare ≤ self.new.spare + 1 }
+        ensures spare { self.new.spare ≡ self.old.spare }
+        ensures places { self.old.places ≤ self.new.places + 1 }
     {
         let home = oid.node;
         let serial = oid.serial;
@@ -149,6 +160,7 @@ impl Holdings {
         ensures received { self.new.received ≡ self.old.received }
         ensures uses { self.new.uses ≡ raised self.old.uses oid.node oid.serial }
         ensures spare { self.old.spare ≤ self.new.spare + 1 }
+        ensures places { self.new.places ≡ self.old.places }
     {
         let home = oid.node;
         let serial = oid.serial;
@@ -162,6 +174,7 @@ impl Holdings {
         ensures received { self.new.received ≡ self.old.received }
         ensures uses { self.new.uses ≡ lowered self.old.uses oid.node oid.serial 1 }
         ensures spare { self.old.spare ≤ self.new.spare }
+        ensures places { self.new.places ≡ self.old.places }
     {
         let home = oid.node;
         let serial = oid.serial;
@@ -180,6 +193,7 @@ impl Holdings {
         ensures received { self.new.received ≡ self.old.received }
         ensures uses { self.new.uses ≡ taken_off self.old.uses oid }
         ensures spare { self.old.spare ≤ self.new.spare }
+        ensures places { self.new.places ≡ self.old.places }
     {
         if self.uses(oid) == 0 {
             return;

@@ -78,30 +78,43 @@ impl Imports {
         }
     }
 
-    /// Makes room for `more` objects, lends and asks at least.
+    /// Makes room to use so many objects more at least, and for so many links: to receive, lend and
+    /// ask for so many.
     ///
     /// If memory runs out, all but the room is unchanged.
-    pub fn reserve(&mut self, more: u64) -> Result<(), AllocError>
-        ensures same { self.new ≡ record self.old { spare = self.new.spare } }
-        ensures ok { OnOk result (more ≤ self.new.spare) }
-        ensures kept { self.old.spare ≤ self.new.spare }
+    pub fn reserve(&mut self, uses: u64, links: u64) -> Result<(), AllocError>
+        ensures same { self.new ≡ record self.old {
+          spare = self.new.spare;
+          links = self.new.links;
+        } }
+        ensures used { OnOk result (uses ≤ self.new.spare) }
+        ensures linked { OnOk result (links ≤ self.new.links) }
+        ensures spare { self.old.spare ≤ self.new.spare }
+        ensures links { self.old.links ≤ self.new.links }
     {
-        self.holdings.reserve(more)?;
-        self.named.reserve(more)?;
-        self.asked.reserve(more)?;
-        self.lends.reserve(more)?;
-        self.asks.reserve(more)?;
-        self.classes.reserve(more)
+        self.holdings.reserve(uses, links)?;
+        self.named.reserve(links)?;
+        self.asked.reserve(links)?;
+        self.lends.reserve(links)?;
+        self.asks.reserve(links)?;
+        self.classes.reserve(links)
+    }
+
+    /// How many more objects can be used with no memory taken.
+    pub fn spare(&self) -> u64
+        ensures { result ≡ self.now.spare }
+    {
+        self.holdings.spare()
     }
 
     /// How many more objects, lends and asks fit with no memory taken, of whichever fewest fit.
-    pub fn spare(&self) -> u64
-        ensures { result ≡ self.now.spare }
+    pub fn links(&self) -> u64
+        ensures { result ≡ self.now.links }
     {
         let counts = self.named.spare().min(self.asked.spare());
         let rows = self.lends.spare().min(self.asks.spare());
         self.holdings
-            .spare()
+            .places()
             .min(counts)
             .min(rows)
             .min(self.classes.spare())

@@ -20,8 +20,8 @@ key o = (o.node, o.serial)
 
 -- imports after these counts of received objects are left
 abbrev pub after : Imported → Counts → ℕ → Imported
-after old received spare =
-    record old { received = received; classes = classes_left old received; spare = spare }
+after old received links =
+    record old { received = received; classes = classes_left old received; links = links }
 
 -- what has left so far, while these counts are left
 pub record LeftSoFar (old : Imported) (received : Counts) (before so_far : List (ObjectName × ℕ))
@@ -61,7 +61,7 @@ classes_none old = same_map entry_total entry_same _ _ (λ q.
     go q false c = refl
 
 -- the imports are those after nothing has left
-pub after_none : (old : Imported) → old ≡ after old old.received old.spare
+pub after_none : (old : Imported) → old ≡ after old old.received old.links
 after_none old = λ i. record old { classes = sym (classes_none old) i }
 
 module _ (old : Imported) (received : Counts) (o : ObjectName) where
@@ -150,38 +150,38 @@ left_more old received before so_far one so lowest count = record {
 
 -- the imports once one more left
 pub after_more : (old now new : Imported) (before so_far : List (ObjectName × ℕ)) (o : ObjectName)
-    → LeftSoFar old now.received before so_far → now ≡ after old now.received now.spare
+    → LeftSoFar old now.received before so_far → now ≡ after old now.received now.links
     → map.contains_key now.received (key o) ≡ true
     → new ≡ record now {
       received = map.remove now.received (key o);
       classes = left_of now.classes o (map.contains_key now.asked (key o));
-      spare = new.spare;
-    } → new ≡ after old (map.remove now.received (key o)) new.spare
+      links = new.links;
+    } → new ≡ after old (map.remove now.received (key o)) new.links
 after_more old now new before so_far o so same had is =
     is
     ∙ ap (λ (i : Imported). record i {
       received = map.remove now.received (key o);
       classes = left_of i.classes o (map.contains_key i.asked (key o));
-      spare = new.spare;
+      links = new.links;
     }) same
     ∙ (λ i. record old {
       received = map.remove now.received (key o);
       classes = class_goes old now.received o (so.within (key o) had) i;
-      spare = new.spare;
+      links = new.links;
     })
 
 -- one more left, with the imports and the list after it
 pub left_step : (old now new : Imported) (before so_far so_far' : List (ObjectName × ℕ))
     (one : ObjectName × ℕ) → LeftSoFar old now.received before so_far
-    → now ≡ after old now.received now.spare
+    → now ≡ after old now.received now.links
     → IsLowestLeaving now.received now.uses (key one.0)
     → one.1 ≡ count_of now.received one.0.node one.0.serial
     → new ≡ record now {
       received = map.remove now.received (key one.0);
       classes = left_of now.classes one.0 (map.contains_key now.asked (key one.0));
-      spare = new.spare;
+      links = new.links;
     } → so_far' ≡ so_far ++ one ∷ []
-    → LeftSoFar old new.received before so_far' × (new ≡ after old new.received new.spare)
+    → LeftSoFar old new.received before so_far' × (new ≡ after old new.received new.links)
 left_step old now new before so_far so_far' one so same lowest count is items =
     let L : Counts → Type 0 = λ u. IsLowestLeaving now.received u (key one.0) in
     let P : Counts → Type 0 = λ r. LeftSoFar old r before (so_far ++ one ∷ []) in
@@ -192,12 +192,12 @@ left_step old now new before so_far so_far' one so same lowest count is items =
     (subst L (ap (λ (i : Imported). i.uses) same) lowest) count in (
       subst Q (sym items) (subst P (sym received) more),
       after_more old now new before so_far one.0 so same had is
-          ∙ ap (λ r. after old r new.spare) (sym received),
+          ∙ ap (λ r. after old r new.links) (sym received),
     )
 
 -- all have left
 pub left_all : (old now : Imported) (before so_far : List (ObjectName × ℕ))
-    → LeftSoFar old now.received before so_far → now ≡ after old now.received now.spare
+    → LeftSoFar old now.received before so_far → now ≡ after old now.received now.links
     → NoneLeaves now.received now.uses → AllLeave old now before so_far
 left_all old now before so_far so same none =
     let uses : now.uses ≡ old.uses = ap (λ (i : Imported). i.uses) same in
@@ -211,7 +211,7 @@ left_all old now before so_far so same none =
       same = same ∙ (λ i. record old {
         received = users i;
         classes = classes_left old now.received;
-        spare = now.spare;
+        links = now.links;
       });
     }
 

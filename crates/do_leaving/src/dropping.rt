@@ -16,7 +16,7 @@ pub fn leave_all(imports: &mut Imports, left: &mut Vec<(Oid, u64)>)
     requires { vec_len left.old + map.len imports.old.received ≤ vec_capacity left.old }
     ensures positive { IsPositive imports.old.uses }
     ensures leave { AllLeave imports.old imports.new left.old.items left.new.items }
-    ensures spare { imports.old.spare ≤ imports.new.spare }
+    ensures links { imports.old.links ≤ imports.new.links }
     ensures capacity { vec_capacity left.new ≡ vec_capacity left.old }
 {
     while let Some(one) = imports.leave_next() {

@@ -76,11 +76,13 @@ pub fn leave(
       uses = imports.new.uses;
       classes = classes_left imports.old imports.new.received;
       spare = imports.new.spare;
+      links = imports.new.links;
     } }
     ensures node { store.new.node ≡ store.old.node }
     ensures next { store.new.next ≡ store.old.next }
     ensures spare { store.new.spare ≡ store.old.spare }
     ensures room_left { imports.old.spare ≤ imports.new.spare }
+    ensures links_left { imports.old.links ≤ imports.new.links }
     ensures freed_room { vec_capacity freed.new ≡ vec_capacity freed.old }
     ensures left_room { vec_capacity left.new ≡ vec_capacity left.old }
 {

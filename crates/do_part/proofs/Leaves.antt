@@ -93,6 +93,7 @@ pub own_left : (i : Inside) (store : Objects) (m : Imported) (freed : List ℕ)
       uses = m.uses;
       classes = classes_left i.holders.imports m.received;
       spare = m.spare;
+      links = m.links;
     }
     → m.received ≡ map.retain_keys i.holders.imports.received (map.contains_key m.uses)
     → IsTied m

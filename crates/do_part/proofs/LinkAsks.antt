@@ -75,6 +75,7 @@ pub granted_is : (n m : Imported) → IsTied n → (o : ObjectName) (t : TokenNa
       asks = map.remove n.asks (ask_key o t);
       classes = first_kept n.classes o class;
       spare = m.spare;
+      links = m.links;
     }) → Granted n m o t
 granted_is n m tied o t there same = go (map.get n.asks (ask_key o t)) refl there
   where
@@ -111,21 +112,22 @@ sound_granted i m s o t there is counted positive most =
 -- ---- kept
 
 -- the imports with an ask, as the call that keeps it says
-abbrev pub with_ask : Imported → ObjectName → TokenName → ClassId → ℕ → Imported
-with_ask n o t class spare = record n {
+abbrev pub with_ask : Imported → ObjectName → TokenName → ClassId → ℕ → ℕ → Imported
+with_ask n o t class spare links = record n {
   uses = added n.uses o;
   named = added n.named o;
   asked = added n.asked o;
   asks = map.insert n.asks (ask_key o t) class;
   classes = first_kept n.classes o class;
   spare = spare;
+  links = links;
 }
 
 module _ (i : Inside) (m : Imported) where
   -- a part is sound once it keeps an ask, or kept it already
   pub sound_asked : IsSound i → (o : ObjectName) (t : TokenName) (class : ClassId) (kept : Bool)
-      → m ≡ (if kept then with_ask i.holders.imports o t class m.spare
-      else record i.holders.imports { spare = m.spare })
+      → m ≡ (if kept then with_ask i.holders.imports o t class m.spare m.links
+      else record i.holders.imports { spare = m.spare; links = m.links })
       → o.node ≢ i.holders.node → 0 < t.lender → IsPositive m.uses
       → i.holders.names + 1 ≤ most_names → IsSound (with_imports i m (i.holders.names + 1))
   sound_asked s o t class true e foreign lender positive most =
@@ -148,8 +150,8 @@ module _ (i : Inside) (m : Imported) where
   -- it has what it had, with the ask if that was not kept already
   pub own_asked : (names : ℕ) (o : ObjectName) (t : TokenName) (class : ClassId) (kept : Bool)
       → kept ≡ not (map.contains_key i.holders.imports.asks (ask_key o t))
-      → m ≡ (if kept then with_ask i.holders.imports o t class m.spare
-      else record i.holders.imports { spare = m.spare })
+      → m ≡ (if kept then with_ask i.holders.imports o t class m.spare m.links
+      else record i.holders.imports { spare = m.spare; links = m.links })
       → own_of (with_imports i m names) ≡ (if kept then record (own_of i) {
         node = with_wanted (wanted o t.lender t.number) (own_of i).node;
         classes = first_kept (own_of i).classes o class;

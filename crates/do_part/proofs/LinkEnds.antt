@@ -82,12 +82,14 @@ lend_enough n are k o is x =
 
 -- the lend of a key is over, if one was found, and nothing else has changed but room
 abbrev IsSettled : Imported → Imported → ℕ × ℕ → Option ObjectName → Type 0
-IsSettled n m key found = MatchOption found (m ≡ record n { spare = m.spare }) (λ o. m ≡ record n {
-  uses = taken_off n.uses o;
-  named = taken_off n.named o;
-  lends = map.remove n.lends key;
-  spare = m.spare;
-})
+IsSettled n m key found = MatchOption found
+    (m ≡ record n { spare = m.spare; links = m.links }) (λ o. m ≡ record n {
+      uses = taken_off n.uses o;
+      named = taken_off n.named o;
+      lends = map.remove n.lends key;
+      spare = m.spare;
+      links = m.links;
+    })
 
 module _ (n m : Imported) (tied : IsTied n) (lender borrower number : ℕ) (found : Option ObjectName)
     (home : lender ≡ n.own)
@@ -149,8 +151,8 @@ module _ (n m : Imported) (tied : IsTied n) (lender borrower number : ℕ) (foun
 -- ---- asks
 
 -- the imports without an ask, as the calls that end it say
-abbrev pub without_ask : Imported → ObjectName → TokenName → ℕ → Imported
-without_ask n o t spare = record n {
+abbrev pub without_ask : Imported → ObjectName → TokenName → ℕ → ℕ → Imported
+without_ask n o t spare links = record n {
   uses = taken_off n.uses o;
   named = taken_off n.named o;
   asked = taken_off n.asked o;
@@ -158,6 +160,7 @@ without_ask n o t spare = record n {
   classes = left_of n.classes o (map.contains_key n.received (o.node, o.serial)
       || map.contains_key (taken_off n.asked o) (o.node, o.serial));
   spare = spare;
+  links = links;
 }
 
 -- an ask is counted
@@ -172,7 +175,7 @@ ask_enough n are o t there x =
 
 module _ (n m : Imported) (tied : IsTied n) (o : ObjectName) (t : TokenName) where
   -- an ask is over
-  pub ask_over : map.contains_key n.asks (ask_key o t) ≡ true → m ≡ without_ask n o t m.spare
+  pub ask_over : map.contains_key n.asks (ask_key o t) ≡ true → m ≡ without_ask n o t m.spare m.links
       → AreOver n m
   ask_over there e = record {
     objects = o ∷ [];
@@ -186,13 +189,15 @@ module _ (n m : Imported) (tied : IsTied n) (o : ObjectName) (t : TokenName) whe
   }
 
   module _ (ended : Bool) (which : ended ≡ map.contains_key n.asks (ask_key o t))
-      (same : m ≡ (if ended then without_ask n o t m.spare else record n { spare = m.spare })) where
+      (same : m ≡ (if ended then without_ask n o t m.spare m.links
+      else record n { spare = m.spare; links = m.links })) where
     -- an ask is over, if there was one
     pub gone_over : AreOver n m
     gone_over = go ended which same
       where
         go : (b : Bool) → b ≡ map.contains_key n.asks (ask_key o t)
-            → m ≡ (if b then without_ask n o t m.spare else record n { spare = m.spare })
+            → m ≡ (if b then without_ask n o t m.spare m.links
+            else record n { spare = m.spare; links = m.links })
             → AreOver n m
         go true is e = ask_over (sym is) e
         go false is e = record {
@@ -215,7 +220,8 @@ module _ (n m : Imported) (tied : IsTied n) (o : ObjectName) (t : TokenName) whe
         nothing (Some v) e = absurd (subst T (sym e) tt)
 
         go : (b : Bool) → b ≡ map.contains_key n.asks (ask_key o t)
-            → m ≡ (if b then without_ask n o t m.spare else record n { spare = m.spare })
+            → m ≡ (if b then without_ask n o t m.spare m.links
+            else record n { spare = m.spare; links = m.links })
             → (m.asks ≡ map.remove n.asks (ask_key o t)) × (m.lends ≡ n.lends)
             × (m.received ≡ n.received)
         go true is e = (
@@ -234,18 +240,19 @@ module _ (n m : Imported) (tied : IsTied n) (o : ObjectName) (t : TokenName) whe
 -- ---- a peer's end
 
 -- the imports without what they had with a peer, as the call that ends it says
-abbrev pub without_peer : Imported → ℕ → ℕ → Imported
-without_peer n peer spare = record n {
+abbrev pub without_peer : Imported → ℕ → ℕ → ℕ → Imported
+without_peer n peer spare links = record n {
   received = others_of n.received peer;
   uses = all_off n.uses (lent_to peer (map.entries n.lends));
   named = all_off n.named (lent_to peer (map.entries n.lends));
   lends = others_of n.lends peer;
   classes = home_ended n.classes peer n.asked;
   spare = spare;
+  links = links;
 }
 
 -- the lends to a peer are over
-pub peer_over : (n m : Imported) → IsTied n → (peer : ℕ) → m ≡ without_peer n peer m.spare
+pub peer_over : (n m : Imported) → IsTied n → (peer : ℕ) → m ≡ without_peer n peer m.spare m.links
     → AreOver n m
 peer_over n m tied peer e = record {
   objects = lent_to peer (map.entries n.lends);

@@ -55,6 +55,11 @@ pub room_kept : (a b : Holders) → SameNumbers a b
     → min b.store.spare (2 ^ 63 - b.store.next) ≡ min a.store.spare (2 ^ 63 - a.store.next)
 room_kept a b s = λ j. min (s.spare j) (2 ^ 63 - s.next j)
 
+-- and so is the room for entries
+pub entries_kept : (spare : ℕ) (a b : Holders) → SameNumbers a b
+    → min spare b.imports.links ≡ min spare a.imports.links
+entries_kept spare a b s = λ j. min spare (s.imports j).links
+
 -- lends and asks name the same
 pub named_kept : (a b : Holders) → SameNumbers a b → (o : ObjectName)
     → count_of b.imports.named o.node o.serial ≡ count_of a.imports.named o.node o.serial

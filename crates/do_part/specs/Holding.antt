@@ -81,4 +81,5 @@ pub record SameHolders (a b : Holders) : Type 0 where
   pub home : b.store.node ≡ a.store.node
   pub next : b.store.next ≡ a.store.next
   pub names : b.names ≡ a.names
-  pub imports : b.imports ≡ record a.imports { spare = b.imports.spare }
+  pub imports : b.imports
+      ≡ record a.imports { spare = b.imports.spare; links = b.imports.links }

@@ -6,7 +6,8 @@ use Rattle.do_import.specs.{Asked.class_code, ByObject.ClassMap}
 use Rattle.do_machine.specs.declared.node.Node.{Node}
 use Rattle.do_network.specs.Own.{Own}
 
--- how many more objects, invocations, names and entries fit with no memory taken
+-- how many more objects, invocations, names and entries fit with no memory taken: an entry is that
+-- of an object that is named to a peer, lent to it, received of it or asked for
 pub record Room : Type 0 where
   pub objects : ℕ
   pub invocations : ℕ

@@ -45,13 +45,13 @@ own_of i = record {
 }
 
 -- the room that the fields have together: a name needs room among the imports, and each name that
--- was ever counted is counted here
+-- was ever counted is counted here; an entry needs room among the exports and for a link
 abbrev pub room_of : Inside → Room
 room_of i = record {
   objects = min i.holders.store.spare (2 ^ 63 - i.holders.store.next);
   invocations = i.stack.spare;
   names = min i.holders.imports.spare (most_names - i.holders.names);
-  entries = i.exports.spare;
+  entries = min i.exports.spare i.holders.imports.links;
 }
 
 -- what contracts see

@@ -19,7 +19,8 @@ impl Holdings {
             × (self.new.received ≡ map.remove self.old.received (left.0.node, left.0.serial))
             × (self.new.uses ≡ self.old.uses)) }
         ensures positive { IsPositive self.old.uses }
-        ensures spare { self.old.spare ≤ self.new.spare }
+        ensures spare { self.new.spare ≡ self.old.spare }
+        ensures places { self.old.places ≤ self.new.places }
     {
         let Some(oid) = self.lowest() else {
             return None;
@@ -34,7 +35,8 @@ impl Holdings {
     pub fn end_peer(&mut self, home: NodeId)
         ensures received { self.new.received ≡ others_of self.old.received home }
         ensures uses { self.new.uses ≡ self.old.uses }
-        ensures spare { self.old.spare ≤ self.new.spare }
+        ensures spare { self.new.spare ≡ self.old.spare }
+        ensures places { self.old.places ≤ self.new.places }
     {
         self.thread.retain(|row| row.0.0 != home);
         self.received.end_peer(home);

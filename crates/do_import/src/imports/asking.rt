@@ -27,6 +27,7 @@ impl Imports {
     /// False exactly where it is kept already, and then nothing changes.
     pub fn ask(&mut self, oid: Oid, class: ClassId, token: Token) -> bool
         requires room { 0 < self.old.spare }
+        requires linked { 0 < self.old.links }
         requires uses { count_of self.old.uses oid.node oid.serial < 2 ^ 64 - 1 }
         requires named { count_of self.old.named oid.node oid.serial < 2 ^ 64 - 1 }
         requires asked { count_of self.old.asked oid.node oid.serial < 2 ^ 64 - 1 }
@@ -38,8 +39,13 @@ impl Imports {
           asks = map.insert self.old.asks (ask_key oid token) class;
           classes = first_kept self.old.classes oid class;
           spare = self.new.spare;
-        } else record self.old { spare = self.new.spare }) }
+          links = self.new.links;
+        } else record self.old {
+          spare = self.new.spare;
+          links = self.new.links;
+        }) }
         ensures spare { self.old.spare ≤ self.new.spare + 1 }
+        ensures links { self.old.links ≤ self.new.links + 1 }
     {
         if !self.asks.ask(oid, token, class) {
             return false;
@@ -55,7 +61,7 @@ impl Imports {
     ///
     /// False exactly where no such ask is kept, and then nothing changes.
     pub fn granted(&mut self, oid: Oid, token: Token) -> bool
-        requires room { 0 < self.old.spare }
+        requires linked { 0 < self.old.links }
         requires small { count_of self.old.received oid.node oid.serial < 2 ^ 64 - 1 }
         ensures which { result ≡ map.contains_key self.old.asks (ask_key oid token) }
         ensures none { result ≡ false → self.new ≡ self.old }
@@ -69,8 +75,10 @@ impl Imports {
               asks = map.remove self.old.asks (ask_key oid token);
               classes = first_kept self.old.classes oid class;
               spare = self.new.spare;
+              links = self.new.links;
             } }
-        ensures spare { self.old.spare ≤ self.new.spare + 1 }
+        ensures spare { self.old.spare ≤ self.new.spare }
+        ensures links { self.old.links ≤ self.new.links + 1 }
     {
         let Some(class) = self.asks.class(oid, token) else {
             return false;
@@ -96,8 +104,10 @@ impl Imports {
               (map.contains_key self.old.received (oid.node, oid.serial)
               || map.contains_key (taken_off self.old.asked oid) (oid.node, oid.serial));
           spare = self.new.spare;
+          links = self.new.links;
         } }
         ensures spare { self.old.spare ≤ self.new.spare }
+        ensures links { self.old.links ≤ self.new.links }
     {
         self.asks.end(oid, token);
         self.holdings.take_off(oid);
@@ -120,8 +130,13 @@ impl Imports {
               (map.contains_key self.old.received (oid.node, oid.serial)
               || map.contains_key (taken_off self.old.asked oid) (oid.node, oid.serial));
           spare = self.new.spare;
-        } else record self.old { spare = self.new.spare }) }
+          links = self.new.links;
+        } else record self.old {
+          spare = self.new.spare;
+          links = self.new.links;
+        }) }
         ensures spare { self.old.spare ≤ self.new.spare }
+        ensures links { self.old.links ≤ self.new.links }
     {
         if !self.asks.has(oid, token) {
             return false;
@@ -147,8 +162,10 @@ impl Imports {
                   || map.contains_key (taken_off self.old.asked ask.0)
                   (ask.0.node, ask.0.serial));
               spare = self.new.spare;
+              links = self.new.links;
             })) }
         ensures spare { self.old.spare ≤ self.new.spare }
+        ensures links { self.old.links ≤ self.new.links }
     {
         let Some((oid, token)) = self.asks.next_ask(home) else {
             return None;

@@ -16,6 +16,7 @@ fn take_lends_off(holdings: &mut Holdings, named: &mut ByObject<u64>, lends: &Le
     ensures uses { holdings.new.uses
         ≡ all_off holdings.old.uses (lent_to borrower (map.entries lends.now.lends)) }
     ensures spare { holdings.old.spare ≤ holdings.new.spare }
+    ensures places { holdings.new.places ≡ holdings.old.places }
     ensures named { named.new.rows
         ≡ all_off named.old.rows (lent_to borrower (map.entries lends.now.lends)) }
     ensures room { named.old.spare ≤ named.new.spare }
@@ -42,8 +43,10 @@ impl Imports {
           lends = others_of self.old.lends peer;
           classes = home_ended self.old.classes peer self.old.asked;
           spare = self.new.spare;
+          links = self.new.links;
         } }
         ensures spare { self.old.spare ≤ self.new.spare }
+        ensures links { self.old.links ≤ self.new.links }
     {
         let borrower = peer.port();
         take_lends_off(&mut self.holdings, &mut self.named, &self.lends, borrower);

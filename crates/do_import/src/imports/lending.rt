@@ -12,6 +12,7 @@ impl Imports {
     /// Keeps a lend under the next number, in room that was made before, and tells its token.
     pub fn lend(&mut self, oid: Oid, borrower: NodeId) -> Token
         requires room { 0 < self.old.spare }
+        requires linked { 0 < self.old.links }
         requires next { self.old.next < 2 ^ 63 }
         requires uses { count_of self.old.uses oid.node oid.serial < 2 ^ 64 - 1 }
         requires named { count_of self.old.named oid.node oid.serial < 2 ^ 64 - 1 }
@@ -22,8 +23,10 @@ impl Imports {
           lends = map.insert self.old.lends (borrower, self.old.next) oid;
           next = self.old.next + 1;
           spare = self.new.spare;
+          links = self.new.links;
         } }
         ensures spare { self.old.spare ≤ self.new.spare + 1 }
+        ensures links { self.old.links ≤ self.new.links + 1 }
     {
         let number = self.lends.lend(oid, borrower);
         self.holdings.refer(oid);
@@ -39,14 +42,19 @@ impl Imports {
     pub fn settle(&mut self, token: Token, borrower: NodeId) -> Option<Oid>
         ensures which { result ≡ (if token.lender == self.old.own
             then map.get self.old.lends (borrower, token.number) else None) }
-        ensures same { MatchOption result (self.new ≡ record self.old { spare = self.new.spare })
+        ensures same { MatchOption result (self.new ≡ record self.old {
+          spare = self.new.spare;
+          links = self.new.links;
+        })
             (λ oid. self.new ≡ record self.old {
               uses = taken_off self.old.uses oid;
               named = taken_off self.old.named oid;
               lends = map.remove self.old.lends (borrower, token.number);
               spare = self.new.spare;
+              links = self.new.links;
             }) }
         ensures spare { self.old.spare ≤ self.new.spare }
+        ensures links { self.old.links ≤ self.new.links }
     {
         if token.lender != self.own {
             return None;

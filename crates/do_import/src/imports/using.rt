@@ -23,14 +23,14 @@ fn leave_class(classes: &mut ByObject<ClassId>, asked: &ByObject<u64>, oid: Oid)
 impl Imports {
     /// Counts an object as received once more, in room that was made before.
     pub fn got(&mut self, oid: Oid, class: ClassId)
-        requires room { 0 < self.old.spare }
+        requires linked { 0 < self.old.links }
         requires small { count_of self.old.received oid.node oid.serial < 2 ^ 64 - 1 }
         ensures same { self.new ≡ record self.old {
           received = added self.old.received oid;
           classes = first_kept self.old.classes oid class;
-          spare = self.new.spare;
+          links = self.new.links;
         } }
-        ensures spare { self.old.spare ≤ self.new.spare + 1 }
+        ensures links { self.old.links ≤ self.new.links + 1 }
     {
         self.holdings.got(oid);
         self.classes.keep(oid, class);
@@ -84,10 +84,10 @@ impl Imports {
               received = map.remove self.old.received (left.0.node, left.0.serial);
               classes = left_of self.old.classes left.0
                   (map.contains_key self.old.asked (left.0.node, left.0.serial));
-              spare = self.new.spare;
+              links = self.new.links;
             })) }
         ensures positive { IsPositive self.old.uses }
-        ensures spare { self.old.spare ≤ self.new.spare }
+        ensures links { self.old.links ≤ self.new.links }
     {
         let Some((oid, count)) = self.holdings.leave_next() else {
             return None;

@@ -1,4 +1,4 @@
-//! Room for objects and names.
+//! Room for objects, names and links.
 ghost use Rattle.std.specs.Prelude.{◌≡◌, ◌-◌, ◌≤◌, ◌^◌, min, OnOk};
 ghost use Rattle.do_part.specs.Holding.{most_names, SameHolders};
 
@@ -12,16 +12,17 @@ const SERIALS: u64 = 9_223_372_036_854_775_808;
 const NAMES: u64 = 4_611_686_018_427_387_904;
 
 impl Holders {
-    /// Makes room for so many objects and names at least, unless numbers run out.
-    pub(crate) fn reserve(&mut self, objects: u64, names: u64) -> Result<(), AllocError>
+    /// Makes room for so many objects, names and links at least, unless numbers run out.
+    pub(crate) fn reserve(&mut self, objects: u64, names: u64, links: u64) -> Result<(), AllocError>
         ensures same { SameHolders self.old self.new }
         ensures objects { OnOk result
             (objects ≤ min self.new.store.spare (2 ^ 63 - self.new.store.next)) }
         ensures names { OnOk result
             (names ≤ min self.new.imports.spare (most_names - self.new.names)) }
+        ensures links { OnOk result (links ≤ self.new.imports.links) }
     {
-        // Most steps need none of either.
-        if objects == 0 && names == 0 {
+        // Most steps need none of them.
+        if objects == 0 && names == 0 && links == 0 {
             return Ok(());
         }
         let next = self.store.next_serial();
@@ -31,6 +32,6 @@ impl Holders {
             return Err(AllocError);
         }
         self.store.reserve(objects)?;
-        self.imports.reserve(names)
+        self.imports.reserve(names, links)
     }
 }

@@ -141,14 +141,16 @@ impl ImportCalls {
 
     /// Makes room for more.
     fn reserve(&mut self, args: &Values) -> Result<Value, Fail> {
-        self.imports.reserve(amount_at(args, 0)?)?;
+        let more = amount_at(args, 0)?;
+        self.imports.reserve(more, more)?;
         Ok(Value::Nil)
     }
 
     /// Whether there is room for more.
     fn has_room(&self, args: &Values) -> Result<Value, Fail> {
         let more = amount_at(args, 0)?;
-        Ok(as_number(self.imports.spare() >= more))
+        let room = self.imports.spare().min(self.imports.links());
+        Ok(as_number(room >= more))
     }
 
     /// The objects that are named.

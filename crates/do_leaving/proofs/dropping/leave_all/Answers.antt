@@ -11,7 +11,7 @@ pub loop-one-init : goal.loop-one-init
 loop-one-init c = record {
   so_far = left_none c.args.imports.now c.args.left.now.items;
   same = after_none c.args.imports.now;
-  spare = omega arith;
+  links = omega arith;
   room = c.requires;
   capacity = refl;
 }
@@ -52,7 +52,7 @@ loop-one-preserved c =
     record {
       so_far = step.0;
       same = step.1;
-      spare = omega (arith, so.spare, c.leave_next.ensures.spare);
+      links = omega (arith, so.links, c.leave_next.ensures.links);
       room = omega (
         arith,
         so.room,

@@ -16,6 +16,7 @@ impl Part {
     pub fn ask_home(&mut self, oid: Oid, class: ClassId, token: Token) -> bool
         requires foreign { oid.node ≢ self.old.own.node.port }
         requires room { 0 < self.old.room.names }
+        requires linked { 0 < self.old.room.entries }
         ensures which { result
             ≡ not (list_any (same_wanted (wanted oid token.lender token.number))
             self.old.own.node.asked) }
@@ -26,7 +27,7 @@ impl Part {
         ensures objects { self.new.room.objects ≡ self.old.room.objects }
         ensures invocations { self.new.room.invocations ≡ self.old.room.invocations }
         ensures names { self.old.room.names ≤ self.new.room.names + 1 }
-        ensures entries { self.new.room.entries ≡ self.old.room.entries }
+        ensures entries { self.old.room.entries ≤ self.new.room.entries + 1 }
     {
         let _lender = token.lender.port();
         self.holders.imports.counts_are_tied();
@@ -40,6 +41,7 @@ impl Part {
     /// once more.
     pub fn granted(&mut self, oid: Oid, token: Token)
         requires room { 0 < self.old.room.names }
+        requires linked { 0 < self.old.room.entries }
         requires asked { list_any (same_wanted (wanted oid token.lender token.number))
             self.old.own.node.asked ≡ true }
         ensures own { self.new.own ≡ record self.old.own {
@@ -50,7 +52,7 @@ impl Part {
         ensures objects { self.new.room.objects ≡ self.old.room.objects }
         ensures invocations { self.new.room.invocations ≡ self.old.room.invocations }
         ensures names { self.old.room.names ≤ self.new.room.names + 1 }
-        ensures entries { self.new.room.entries ≡ self.old.room.entries }
+        ensures entries { self.old.room.entries ≤ self.new.room.entries + 1 }
     {
         self.holders.imports.counts_are_tied();
         self.holders.imports.granted(oid, token);
@@ -69,7 +71,7 @@ impl Part {
         ensures objects { self.new.room.objects ≡ self.old.room.objects }
         ensures invocations { self.new.room.invocations ≡ self.old.room.invocations }
         ensures names { self.old.room.names ≤ self.new.room.names }
-        ensures entries { self.new.room.entries ≡ self.old.room.entries }
+        ensures entries { self.old.room.entries ≤ self.new.room.entries }
     {
         self.holders.imports.counts_are_tied();
         self.holders.imports.gone(oid, token);

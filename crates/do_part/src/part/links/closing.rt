@@ -88,7 +88,7 @@ impl Part {
         ensures objects { self.new.room.objects ≡ self.old.room.objects }
         ensures invocations { self.new.room.invocations ≡ self.old.room.invocations }
         ensures names { self.old.room.names ≤ self.new.room.names }
-        ensures entries { self.new.room.entries ≡ self.old.room.entries }
+        ensures entries { self.old.room.entries ≤ self.new.room.entries }
     {
         self.holders.imports.counts_are_tied();
         let Some(ask) = self.holders.imports.ended_ask(peer) else {
@@ -112,7 +112,7 @@ impl Part {
         ensures objects { self.new.room.objects ≡ self.old.room.objects }
         ensures invocations { self.new.room.invocations ≡ self.old.room.invocations }
         ensures names { self.old.room.names ≤ self.new.room.names }
-        ensures entries { self.new.room.entries ≡ self.old.room.entries }
+        ensures entries { self.old.room.entries ≤ self.new.room.entries }
     {
         while let Some(token) = self.end_ask(peer) {
             settled.push_reserved(token);
@@ -130,7 +130,7 @@ impl Part {
         ensures objects { self.new.room.objects ≡ self.old.room.objects }
         ensures invocations { self.new.room.invocations ≡ self.old.room.invocations }
         ensures names { self.old.room.names ≤ self.new.room.names }
-        ensures entries { self.new.room.entries ≡ self.old.room.entries }
+        ensures entries { self.old.room.entries ≤ self.new.room.entries }
     {
         self.holders.imports.counts_are_tied();
         self.holders.imports.end_peer(peer);

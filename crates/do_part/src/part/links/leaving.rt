@@ -29,7 +29,7 @@ impl Part {
         ensures objects { self.old.room.objects ≤ self.new.room.objects }
         ensures invocations { self.new.room.invocations ≡ self.old.room.invocations }
         ensures names { self.old.room.names ≤ self.new.room.names }
-        ensures entries { self.new.room.entries ≡ self.old.room.entries }
+        ensures entries { self.old.room.entries ≤ self.new.room.entries }
         ensures freed_room { vec_capacity freed.new ≡ vec_capacity freed.old }
         ensures left_room { vec_capacity left.new ≡ vec_capacity left.old }
     {

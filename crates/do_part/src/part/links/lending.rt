@@ -11,6 +11,7 @@ impl Part {
     pub fn lend(&mut self, oid: Oid, borrower: NodeId) -> u64
         requires foreign { oid.node ≢ self.old.own.node.port }
         requires room { 0 < self.old.room.names }
+        requires linked { 0 < self.old.room.entries }
         requires next { self.old.own.node.next_token < 2 ^ 63 }
         ensures number { result ≡ self.old.own.node.next_token }
         ensures own { self.new.own ≡ record self.old.own {
@@ -23,7 +24,7 @@ impl Part {
         ensures objects { self.new.room.objects ≡ self.old.room.objects }
         ensures invocations { self.new.room.invocations ≡ self.old.room.invocations }
         ensures names { self.old.room.names ≤ self.new.room.names + 1 }
-        ensures entries { self.new.room.entries ≡ self.old.room.entries }
+        ensures entries { self.old.room.entries ≤ self.new.room.entries + 1 }
     {
         self.holders.imports.counts_are_tied();
         let token = self.holders.imports.lend(oid, borrower);
@@ -40,7 +41,7 @@ impl Part {
         ensures objects { self.new.room.objects ≡ self.old.room.objects }
         ensures invocations { self.new.room.invocations ≡ self.old.room.invocations }
         ensures names { self.old.room.names ≤ self.new.room.names }
-        ensures entries { self.new.room.entries ≡ self.old.room.entries }
+        ensures entries { self.old.room.entries ≤ self.new.room.entries }
     {
         let lender = self.holders.node;
         self.holders.imports.counts_are_tied();

@@ -14,6 +14,7 @@ impl Part {
     pub fn got(&mut self, oid: Oid, class: ClassId)
         requires foreign { oid.node ≢ self.old.own.node.port }
         requires room { 0 < self.old.room.names }
+        requires linked { 0 < self.old.room.entries }
         ensures own { self.new.own ≡ record self.old.own {
           node = record self.old.own.node { held = joined self.old.own.node.held oid };
           received = added self.old.own.received oid;
@@ -22,7 +23,7 @@ impl Part {
         ensures objects { self.new.room.objects ≡ self.old.room.objects }
         ensures invocations { self.new.room.invocations ≡ self.old.room.invocations }
         ensures names { self.old.room.names ≤ self.new.room.names + 1 }
-        ensures entries { self.new.room.entries ≡ self.old.room.entries }
+        ensures entries { self.old.room.entries ≤ self.new.room.entries + 1 }
     {
         self.holders.imports.got(oid, class);
         self.holders.count_name();

@@ -20,11 +20,11 @@ invariant_of-self c =
       used = c.self.invariant.used;
     }
 
--- no room is taken
-pub returns-clause-spare : goal.returns-clause-spare
-returns-clause-spare c =
+-- no place is taken
+pub returns-clause-places : goal.returns-clause-places
+returns-clause-places c =
     let fewer = len_others c.self.inside.received.counts c.args.home in
     let is = ap map.len c.end_peer.ensures.counts in
     rw (← c.self.view_is)
-    (min_keeps _ _ _ _ _ _ c.end_peer.ensures.spare (omega arith)
+    (min_keeps _ _ _ _ c.end_peer.ensures.spare
     (omega (arith, c.retain.ensures.capacity, fewer, is)))

@@ -8,14 +8,14 @@ use Rattle.do_import.proofs.Rooms.{not_longer, len_named, room_of, one_off, min_
 pub thread_unless-requires : goal.thread_unless-requires
 thread_unless-requires c =
     let old = c.self.invariant in
-    let room = room_of _ _ _ _ (rw (← c.self.view_is) at c.requires.room) in
+    let room = room_of _ _ _ (rw (← c.self.view_is) at c.requires.room) in
     record { room = inr (omega (arith, room, not_longer _ _ _ old.threads)) }
 
 -- the thread is right, and has its room, with one more that was received
 pub invariant_of-self : goal.invariant_of-self
 invariant_of-self c =
     let old = c.self.invariant in
-    let room = room_of _ _ _ _ (rw (← c.self.view_is) at c.requires.room) in
+    let room = room_of _ _ _ (rw (← c.self.view_is) at c.requires.room) in
     let kept = rw (← c.self.view_is) at c.is_kept-kept.ensures in
     let more = len_named c.self.inside.received.counts c.oid.inside.node c.oid.inside.serial in
     let is = ap map.len c.name.ensures.counts in
@@ -28,11 +28,11 @@ invariant_of-self c =
       used = old.used;
     }
 
--- the room for one is taken at most
-pub returns-clause-spare : goal.returns-clause-spare
-returns-clause-spare c =
+-- the place for one is taken at most
+pub returns-clause-places : goal.returns-clause-places
+returns-clause-places c =
     let more = len_named c.self.inside.received.counts c.oid.inside.node c.oid.inside.serial in
     let is = ap map.len c.name.ensures.counts in
     rw (← c.self.view_is)
-    (min_falls _ _ _ _ _ _ (one_off _ _ _ c.name.ensures.spare) (omega arith)
+    (min_falls _ _ _ _ (one_off _ _ _ c.name.ensures.spare)
     (omega (arith, more, is, c.thread_unless.ensures.capacity)))

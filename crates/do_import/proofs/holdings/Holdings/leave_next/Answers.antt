@@ -19,12 +19,12 @@ invariant_of-self c =
       used = c.self.invariant.used;
     }
 
--- no room is taken
-pub returns-clause-spare : goal.returns-clause-spare
-returns-clause-spare c =
+-- no place is taken
+pub returns-clause-places : goal.returns-clause-places
+returns-clause-places c =
     let fewer = len_removed c.self.inside.received.counts (c.oid.inside.node, c.oid.inside.serial)
     in
     let is = ap map.len c.forget.ensures.counts in
     rw (← c.self.view_is)
-    (min_keeps _ _ _ _ _ _ c.forget.ensures.spare (omega arith)
+    (min_keeps _ _ _ _ c.forget.ensures.spare
     (omega (arith, c.remove.ensures.capacity, fewer, is)))

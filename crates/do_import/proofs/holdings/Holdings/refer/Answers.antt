@@ -1,8 +1,9 @@
 use Rattle.do_import.proofs.holdings.Holdings.refer.Goals as goal
-use Rattle.std.proofs.Common.{sym, subst, arith}
+use Rattle.std.specs.FinMap as map
+use Rattle.std.proofs.Common.{ap, arith, min, subst, sym, ◌-◌}
 use Rattle.do_export.{specs.Counts.IsPositive, proofs.Counting.positive-raised}
 use Rattle.do_import.specs.Held.{IsThread}
-use Rattle.do_import.proofs.{Threads.refer_threaded, Rooms.{one_off, min_falls}}
+use Rattle.do_import.proofs.{Threads.refer_threaded, Rooms.one_off}
 
 -- the thread is right without an object that is used
 pub invariant_of-self : goal.invariant_of-self
@@ -19,6 +20,11 @@ invariant_of-self c = record {
 -- the room for one use is taken
 pub returns-clause-spare : goal.returns-clause-spare
 returns-clause-spare c =
+    rw (← c.self.view_is) (one_off _ _ _ c.name.ensures.spare)
+
+-- and no place
+pub returns-clause-places : goal.returns-clause-places
+returns-clause-places c =
     rw (← c.self.view_is)
-    (min_falls _ _ _ _ _ _ (omega arith) (one_off _ _ _ c.name.ensures.spare)
-    (omega (arith, c.remove.ensures.capacity)))
+    (ap (λ k. min c.self.inside.received.spare (k - map.len c.self.inside.received.counts))
+    c.remove.ensures.capacity)

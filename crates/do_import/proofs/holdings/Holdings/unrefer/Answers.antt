@@ -1,10 +1,10 @@
 use Rattle.std.specs.FinMap as map
 use Rattle.do_import.proofs.holdings.Holdings.unrefer.Goals as goal
-use Rattle.std.proofs.Common.{◌≡◌, false, not, sym, ap, subst, ◌∙◌, ◌&&◌, arith}
+use Rattle.std.proofs.Common.{◌≡◌, false, not, sym, ap, subst, ◌∙◌, ◌&&◌, arith, min, ◌-◌}
 use Rattle.do_export.{specs.Counts.IsPositive, proofs.Counting.positive-lowered}
 use Rattle.do_import.specs.Held.{IsThread, may_leave}
 use Rattle.do_import.proofs.Threads.{unrefer_threaded, still_threaded, lowered_some, lowered_last}
-use Rattle.do_import.proofs.{Threads.{used_some, and_false}, Rooms.{is_shorter, room_or, min_keeps}}
+use Rattle.do_import.proofs.{Threads.{used_some, and_false}, Rooms.{is_shorter, room_or}}
 
 -- where an object is still used, the thread stays as it is
 pub invariant_of-self : goal.invariant_of-self
@@ -58,6 +58,11 @@ invariant_of-self-2 c =
 -- no room is taken
 pub returns-clause-spare : goal.returns-clause-spare
 returns-clause-spare c =
+    rw (← c.self.view_is) c.in-Ok.ensures.spare
+
+-- and no place
+pub returns-clause-places : goal.returns-clause-places
+returns-clause-places c =
     rw (← c.self.view_is)
-    (min_keeps _ _ _ _ _ _ (omega arith) c.in-Ok.ensures.spare
-    (omega (arith, c.thread_unless.ensures.capacity)))
+    (ap (λ k. min c.self.inside.received.spare (k - map.len c.self.inside.received.counts))
+    c.thread_unless.ensures.capacity)

@@ -33,6 +33,7 @@ loop-at-preserved c =
                 w.take_off-then-row-borrower.ensures.rows
                 ∙ next_lent _ c.args.borrower lends c.loop-at.at c.in-Some.row.now at is ∙ so.3,
             omega (arith, so.4, w.take_off-then-row-borrower.ensures.spare),
+            w.take_off.ensures.places ∙ so.5,
           )
       | else-row-borrower w ↦
           let is = ne_eqb c.in-Some.row.now.0.0 c.args.borrower w.if-row-borrower.false in
@@ -42,6 +43,7 @@ loop-at-preserved c =
             so.2,
             next_other _ c.args.borrower lends c.loop-at.at c.in-Some.row.now at is ∙ so.3,
             so.4,
+            so.5,
           )
     ]
 
@@ -62,3 +64,7 @@ returns-clause-named c =
     (omega (arith, c.loop-at-test.false, c.len-at-end.ensures)) in
     ap (λ l. all_off c.loop-at.named.rows (lent_to c.args.borrower l)) (sym none)
     ∙ c.loop-at.invariant.3
+
+-- and no place was taken
+pub returns-clause-places : goal.returns-clause-places
+returns-clause-places c = c.loop-at.invariant.5

@@ -31,6 +31,8 @@ returns c =
     let now = c.count_name.ensures in
     let names = ap (λ (h : Holders). h.names) now in
     let room = ap (λ (h : Holders). h.imports.spare) now in
+    let links = c.ask-asked.ensures.links in
+    let over = ap (λ (h : Holders). h.imports.links) now in
     rw (← c.self.view_is) (record {
       which = c.ask-asked.ensures.which ∙ ap not (sym (asked_has n.asks c.args.oid c.args.token));
       own = ap (λ (h : Holders). own_of (record i { holders = h })) now
@@ -39,7 +41,7 @@ returns c =
       objects = ap (λ (h : Holders). min h.store.spare (2 ^ 63 - h.store.next)) now;
       invocations = refl;
       names = omega (arith, spare, names, room);
-      entries = refl;
+      entries = omega (arith, links, over);
     })
 
 -- the object is not counted as asked for too often

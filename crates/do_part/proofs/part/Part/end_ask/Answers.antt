@@ -21,7 +21,7 @@ returns-in_default c =
       objects = refl;
       invocations = refl;
       names = omega (arith, ap (λ (m : Imported). m.spare) e);
-      entries = refl;
+      entries = omega (arith, ap (λ (m : Imported). m.links) e);
     })
 
 -- the part is sound without the ask
@@ -51,6 +51,7 @@ returns c =
     let t = c.in-Some.ask.1 in
     let e = which.2 in
     let spare = c.in-Some.ensures.spare in
+    let links = c.in-Some.ensures.links in
     let over = ask_over n m c.counts_are_tied.ensures.tied o t which.1.there e in
     let asked = ap (λ (x : Imported). asked_list x.asks) e ∙ asked_less n.asks o t in
     let held = ap (λ (x : Imported). held_of x.received) e in
@@ -69,5 +70,5 @@ returns c =
       objects = refl;
       invocations = refl;
       names = omega (arith, spare);
-      entries = refl;
+      entries = omega (arith, links);
     })

@@ -21,7 +21,7 @@ loop-token-init c = record {
   objects = refl;
   invocations = refl;
   names = omega arith;
-  entries = refl;
+  entries = omega arith;
 }
 
 -- there is room for the token of an ask that is left
@@ -57,6 +57,8 @@ loop-token-preserved c =
     let room = so.room in
     let names = so.names in
     let more = c.in-Some.ensures.names in
+    let entries = so.entries in
+    let closed = c.in-Some.ensures.entries in
     let len = c.push_reserved.ensures.len in
     let capacity = c.push_reserved.ensures.capacity in
     record {
@@ -89,7 +91,7 @@ loop-token-preserved c =
       objects = c.in-Some.ensures.objects ∙ so.objects;
       invocations = c.in-Some.ensures.invocations ∙ so.invocations;
       names = omega (arith, names, more);
-      entries = c.in-Some.ensures.entries ∙ so.entries;
+      entries = omega (arith, entries, closed);
     }
 
 -- no ask of the peer is left, and the tokens of all are told
@@ -108,6 +110,8 @@ returns c =
     let last = c.in_default.ensures in
     let less = last.names in
     let names = so.names in
+    let entries = so.entries in
+    let closed = last.entries in
     record {
       own = last.which.1 ∙ so.own ∙ (λ j. record start {
         node = record start.node { asked = asked j };
@@ -120,5 +124,5 @@ returns c =
       objects = last.objects ∙ so.objects;
       invocations = last.invocations ∙ so.invocations;
       names = omega (arith, less, names);
-      entries = last.entries ∙ so.entries;
+      entries = omega (arith, entries, closed);
     }

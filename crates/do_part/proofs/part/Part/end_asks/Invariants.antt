@@ -23,7 +23,7 @@ invariant-loop-token l = record {
   objects : l.self.room.objects ≡ l.fn.self.room.objects;
   invocations : l.self.room.invocations ≡ l.fn.self.room.invocations;
   names : l.fn.self.room.names ≤ l.self.room.names;
-  entries : l.self.room.entries ≡ l.fn.self.room.entries;
+  entries : l.fn.self.room.entries ≤ l.self.room.entries;
 }
 
 -- an ask less is left each time

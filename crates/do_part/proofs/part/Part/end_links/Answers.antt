@@ -27,6 +27,7 @@ returns c =
     let m = c.end_peer.new.self in
     let e = c.end_peer.ensures.same in
     let spare = c.end_peer.ensures.spare in
+    let links = c.end_peer.ensures.links in
     let over = peer_over n m c.counts_are_tied.ensures.tied c.args.peer e in
     let asked = ap (λ (x : Imported). asked_list x.asks) e in
     let held = ap (λ (x : Imported). held_of x.received) e ∙ held_apart n.received c.args.peer in
@@ -39,5 +40,5 @@ returns c =
       objects = refl;
       invocations = refl;
       names = omega (arith, spare);
-      entries = refl;
+      entries = omega (arith, links);
     })

@@ -26,6 +26,7 @@ returns c =
     let n = i.holders.imports in
     let m = c.gone.new.self in
     let spare = c.gone.ensures.spare in
+    let links = c.gone.ensures.links in
     let over = gone_over n m c.counts_are_tied.ensures.tied c.args.oid c.args.token c.gone.result
     c.gone.ensures.which c.gone.ensures.same in
     let rows = gone_rows n m c.counts_are_tied.ensures.tied c.args.oid c.args.token c.gone.result
@@ -41,5 +42,5 @@ returns c =
       objects = refl;
       invocations = refl;
       names = omega (arith, spare);
-      entries = refl;
+      entries = omega (arith, links);
     })

@@ -32,10 +32,12 @@ returns c =
     let i = c.self.inside in
     let m = c.got.new.self in
     let e = c.got.ensures.same in
-    let spare = c.got.ensures.spare in
+    let spare = ap (λ (x : Imported). x.spare) e in
     let now = c.count_name.ensures in
     let names = ap (λ (h : Holders). h.names) now in
     let room = ap (λ (h : Holders). h.imports.spare) now in
+    let links = c.got.ensures.links in
+    let over = ap (λ (h : Holders). h.imports.links) now in
     rw (← c.self.view_is) (record {
       own = ap (λ (h : Holders). own_of (record i { holders = h })) now
           ∙ own_linked i m (i.holders.names + 1) _ _ _ _ _ _
@@ -49,7 +51,7 @@ returns c =
       objects = ap (λ (h : Holders). min h.store.spare (2 ^ 63 - h.store.next)) now;
       invocations = refl;
       names = omega (arith, spare, names, room);
-      entries = refl;
+      entries = omega (arith, links, over);
     })
 
 -- the object was not received too often

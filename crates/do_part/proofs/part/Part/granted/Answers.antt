@@ -42,6 +42,8 @@ returns c =
     let now = c.count_name.ensures in
     let names = ap (λ (h : Holders). h.names) now in
     let room = ap (λ (h : Holders). h.imports.spare) now in
+    let links = c.granted.ensures.links in
+    let over = ap (λ (h : Holders). h.imports.links) now in
     rw (← c.self.view_is) (record {
       own = ap (λ (h : Holders). own_of (record i { holders = h })) now
           ∙ own_linked i m (i.holders.names + 1) _ _ _ _ _ _ is.next (ap lent_list is.lends)
@@ -52,7 +54,7 @@ returns c =
       objects = ap (λ (h : Holders). min h.store.spare (2 ^ 63 - h.store.next)) now;
       invocations = refl;
       names = omega (arith, spare, names, room);
-      entries = refl;
+      entries = omega (arith, links, over);
     })
 
 -- the object was not received too often

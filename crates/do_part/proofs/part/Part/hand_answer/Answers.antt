@@ -8,7 +8,8 @@ use Rattle.do_part.specs.declared.tally.Tally.TheVariants.{Less}
 use Rattle.do_part.proofs.{Answering.answer-moves, Awaited.{awaited-answered, call_of, call_to}}
 use Rattle.do_part.proofs.{Awaited.{is_awaited, passes-some, unawaited-answered}, Bounds.values-le}
 use Rattle.do_part.proofs.Numbering.{eased-first, numbered_eased}
-use Rattle.do_part.proofs.{Rest.{numbers_came, own_stack, room_kept}, Stacking.answered-eases}
+use Rattle.do_part.proofs.Rest.{entries_kept, numbers_came, own_stack, room_kept}
+use Rattle.do_part.proofs.Stacking.answered-eases
 use Rattle.do_part.proofs.{Tallying.tallied-none, Turning.{sound_come, sound_moved}}
 
 -- where none waits, nothing changes
@@ -80,5 +81,5 @@ returns c =
           c.answer-2.ensures.late;
       objects = room_kept i.holders b numbers;
       names = omega (arith, spare, names);
-      entries = refl;
+      entries = entries_kept i.exports.spare i.holders b numbers;
     })

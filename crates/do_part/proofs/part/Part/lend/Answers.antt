@@ -32,6 +32,8 @@ returns c =
     let now = c.count_name.ensures in
     let names = ap (λ (h : Holders). h.names) now in
     let room = ap (λ (h : Holders). h.imports.spare) now in
+    let links = c.lend-token.ensures.links in
+    let over = ap (λ (h : Holders). h.imports.links) now in
     rw (← c.self.view_is) (record {
       number = ap (λ (t : TokenName). t.number) (c.token.view_is ∙ c.lend-token.ensures.token);
       own = ap (λ (h : Holders). own_of (record i { holders = h })) now
@@ -46,5 +48,5 @@ returns c =
       objects = ap (λ (h : Holders). min h.store.spare (2 ^ 63 - h.store.next)) now;
       invocations = refl;
       names = omega (arith, spare, names, room);
-      entries = refl;
+      entries = omega (arith, links, over);
     })

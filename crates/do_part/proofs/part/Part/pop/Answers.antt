@@ -3,7 +3,8 @@ use Rattle.std.proofs.Common.{ap, sym, ◌∙◌, arith, refl, subst}
 use Rattle.do_stack.specs.Uses.{invocation_values}
 use Rattle.do_part.specs.{Names.{values_of, stack_of}, declared.tally.Tally.TheVariants.More}
 use Rattle.do_part.proofs.{Exchanging.stack-cons, Numbering.{IsEased, eased-pop, eased-same}}
-use Rattle.do_part.proofs.{Numbering.numbered_eased, Rest.{numbers_gone, own_stack, room_kept}}
+use Rattle.do_part.proofs.Rest.{entries_kept, numbers_gone, own_stack, room_kept}
+use Rattle.do_part.proofs.Numbering.numbered_eased
 use Rattle.do_part.proofs.{Tallying.tallied-none, Turning.{stack_go, sound_moved, sound_stacked}}
 
 -- the names in the top are counted
@@ -58,5 +59,5 @@ returns c =
       objects = room_kept i.holders b numbers;
       room = c.in-Some.ensures.spare;
       names = omega (arith, spare, names);
-      entries = refl;
+      entries = entries_kept i.exports.spare i.holders b numbers;
     })

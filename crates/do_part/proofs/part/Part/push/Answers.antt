@@ -4,7 +4,8 @@ use Rattle.do_stack.specs.Uses.{invocation_values}
 use Rattle.do_part.specs.Names.{values_of, sizes_of, stack_of}
 use Rattle.do_part.{specs.declared.tally.Tally.TheVariants.Less, proofs.Bounds.values-le}
 use Rattle.do_part.proofs.{Exchanging.stack-cons, Numbering.{eased-push, numbered_eased}}
-use Rattle.do_part.proofs.{Rest.{numbers_came, own_stack, room_kept}, Tallying.tallied-none}
+use Rattle.do_part.proofs.Rest.{entries_kept, numbers_came, own_stack, room_kept}
+use Rattle.do_part.proofs.Tallying.tallied-none
 use Rattle.do_part.proofs.Turning.{sound_come, sound_moved}
 
 -- the names in the invocation can be counted
@@ -45,5 +46,5 @@ returns c =
       objects = room_kept i.holders b numbers;
       room = c.in-Ok.ensures.spare;
       names = omega (arith, spare, names);
-      entries = refl;
+      entries = entries_kept i.exports.spare i.holders b numbers;
     })

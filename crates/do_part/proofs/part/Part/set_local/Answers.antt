@@ -6,7 +6,8 @@ use Rattle.do_stack.specs.Waiting.{with_top}
 use Rattle.do_part.specs.Names.{values_of, sizes_of, stack_of}
 use Rattle.do_part.proofs.{Bounds.values-le, Exchanging.{change-moves, first_of, keeps_rest}}
 use Rattle.do_part.proofs.{Numbering.{eased-top, numbered_eased}, Rest.{numbers_turned, heap_kept}}
-use Rattle.do_part.proofs.{Rest.{own_stack, room_kept}, Turning.{sound_come, stack_go, sound_moved}}
+use Rattle.do_part.proofs.Rest.{entries_kept, own_stack, room_kept}
+use Rattle.do_part.proofs.Turning.{sound_come, stack_go, sound_moved}
 
 -- the names in the value can be counted
 pub come_local-requires : goal.come_local-requires
@@ -75,5 +76,5 @@ returns c =
       objects = room_kept i.holders c.go_local.new.self numbers;
       invocations = c.set_local-was.ensures.spare;
       names = omega (arith, s1, s2, n1, n2);
-      entries = refl;
+      entries = entries_kept i.exports.spare i.holders c.go_local.new.self numbers;
     })

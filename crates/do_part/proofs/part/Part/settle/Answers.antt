@@ -26,6 +26,7 @@ returns c =
     let n = i.holders.imports in
     let m = c.settle.new.self in
     let spare = c.settle.ensures.spare in
+    let links = c.settle.ensures.links in
     let over = settled_over n m c.counts_are_tied.ensures.tied i.holders.node c.args.borrower
     c.args.number c.settle.result (sym c.self.invariant.balanced.lender) c.settle.ensures.which
     c.settle.ensures.same in
@@ -39,5 +40,5 @@ returns c =
       objects = refl;
       invocations = refl;
       names = omega (arith, spare);
-      entries = refl;
+      entries = omega (arith, links);
     })
