@@ -2,8 +2,7 @@ use Rattle.do_import.proofs.holdings.Holdings.refer.Goals as goal
 use Rattle.std.specs.FinMap as map
 use Rattle.std.proofs.Common.{ap, arith, min, subst, sym, ◌-◌}
 use Rattle.do_export.{specs.Counts.IsPositive, proofs.Counting.positive-raised}
-use Rattle.do_import.specs.Held.{IsThread}
-use Rattle.do_import.proofs.{Threads.refer_threaded, Rooms.one_off}
+use Rattle.do_import.{specs.Held.IsThread, proofs.{Threads.refer_threaded, Rooms.one_off}}
 
 -- the thread is right without an object that is used
 pub invariant_of-self : goal.invariant_of-self

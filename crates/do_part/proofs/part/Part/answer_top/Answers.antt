@@ -4,9 +4,8 @@ use Rattle.do_machine.specs.{held.Refers.{answer_values, state_values}, run.Chan
 use Rattle.do_stack.specs.Waiting.{with_top}
 use Rattle.do_part.{specs.Names.{values_of, sizes_of, stack_of}, proofs.Bounds.values-le}
 use Rattle.do_part.proofs.{Numbering.{eased-top, numbered_eased}, Rest.{numbers_turned, heap_kept}}
-use Rattle.do_part.proofs.Rest.{entries_kept, own_stack, room_kept}
-use Rattle.do_part.proofs.Stacking.{answered-moves, not-empty}
-use Rattle.do_part.proofs.Turning.{sound_come, stack_go, sound_moved}
+use Rattle.do_part.proofs.{Rest.{entries_kept, own_stack, room_kept}, Stacking.answered-moves}
+use Rattle.do_part.proofs.{Stacking.not-empty, Turning.{sound_come, stack_go, sound_moved}}
 
 -- the names in the answer can be counted
 pub tally_answer-requires : goal.tally_answer-requires

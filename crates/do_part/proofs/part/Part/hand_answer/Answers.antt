@@ -1,16 +1,15 @@
 use Rattle.do_part.proofs.part.Part.hand_answer.Goals as goal
+use Rattle.do_part.proofs.Stacking.answered-eases
 use Rattle.std.proofs.Common.{ap, sym, ◌∙◌, arith, refl}
 use Rattle.do_machine.specs.held.Refers.{answer_values}
 use Rattle.do_machine.specs.take.Awaiting.{awaits, stack_answered, with_answer}
 use Rattle.do_stack.specs.Waiting.{waiting}
 use Rattle.do_part.specs.{Names.{values_of, sizes_of, stack_of}, Owned.Owned, Seen.own_of}
-use Rattle.do_part.specs.declared.tally.Tally.TheVariants.{Less}
-use Rattle.do_part.proofs.{Answering.answer-moves, Awaited.{awaited-answered, call_of, call_to}}
-use Rattle.do_part.proofs.{Awaited.{is_awaited, passes-some, unawaited-answered}, Bounds.values-le}
-use Rattle.do_part.proofs.Numbering.{eased-first, numbered_eased}
-use Rattle.do_part.proofs.Rest.{entries_kept, numbers_came, own_stack, room_kept}
-use Rattle.do_part.proofs.Stacking.answered-eases
-use Rattle.do_part.proofs.{Tallying.tallied-none, Turning.{sound_come, sound_moved}}
+use Rattle.do_part.{specs.declared.tally.Tally.TheVariants.Less, proofs.Answering.answer-moves}
+use Rattle.do_part.proofs.Awaited.{awaited-answered, call_of, call_to, is_awaited, passes-some}
+use Rattle.do_part.proofs.{Awaited.unawaited-answered, Bounds.values-le, Numbering.eased-first}
+use Rattle.do_part.proofs.{Numbering.numbered_eased, Rest.{entries_kept, numbers_came, own_stack}}
+use Rattle.do_part.proofs.{Rest.room_kept, Tallying.tallied-none, Turning.{sound_come, sound_moved}}
 
 -- where none waits, nothing changes
 pub returns-then-not-awaited-clause-own : goal.returns-then-not-awaited-clause-own

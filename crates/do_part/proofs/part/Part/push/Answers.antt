@@ -1,11 +1,11 @@
 use Rattle.do_part.proofs.part.Part.push.Goals as goal
+use Rattle.do_part.proofs.Tallying.tallied-none
 use Rattle.std.proofs.Common.{◌∷◌, ap, arith, refl}
 use Rattle.do_stack.specs.Uses.{invocation_values}
 use Rattle.do_part.specs.Names.{values_of, sizes_of, stack_of}
 use Rattle.do_part.{specs.declared.tally.Tally.TheVariants.Less, proofs.Bounds.values-le}
 use Rattle.do_part.proofs.{Exchanging.stack-cons, Numbering.{eased-push, numbered_eased}}
 use Rattle.do_part.proofs.Rest.{entries_kept, numbers_came, own_stack, room_kept}
-use Rattle.do_part.proofs.Tallying.tallied-none
 use Rattle.do_part.proofs.Turning.{sound_come, sound_moved}
 
 -- the names in the invocation can be counted

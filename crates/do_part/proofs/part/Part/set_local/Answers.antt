@@ -3,11 +3,10 @@ use Rattle.do_part.proofs.part.Part.set_local.Goals as goal
 use Rattle.std.proofs.Common.{[], ◌∷◌, inl, ap, arith, refl}
 use Rattle.do_behave.specs.{Changes.meaning, InPlace.after_act}
 use Rattle.do_stack.specs.Waiting.{with_top}
-use Rattle.do_part.specs.Names.{values_of, sizes_of, stack_of}
-use Rattle.do_part.proofs.{Bounds.values-le, Exchanging.{change-moves, first_of, keeps_rest}}
-use Rattle.do_part.proofs.{Numbering.{eased-top, numbered_eased}, Rest.{numbers_turned, heap_kept}}
-use Rattle.do_part.proofs.Rest.{entries_kept, own_stack, room_kept}
-use Rattle.do_part.proofs.Turning.{sound_come, stack_go, sound_moved}
+use Rattle.do_part.{specs.Names.{values_of, sizes_of, stack_of}, proofs.Bounds.values-le}
+use Rattle.do_part.proofs.{Exchanging.{change-moves, first_of, keeps_rest}, Numbering.eased-top}
+use Rattle.do_part.proofs.{Numbering.numbered_eased, Rest.{numbers_turned, heap_kept, entries_kept}}
+use Rattle.do_part.proofs.{Rest.{own_stack, room_kept}, Turning.{sound_come, stack_go, sound_moved}}
 
 -- the names in the value can be counted
 pub come_local-requires : goal.come_local-requires
