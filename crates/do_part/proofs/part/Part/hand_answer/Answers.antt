@@ -1,5 +1,5 @@
 use Rattle.do_part.proofs.part.Part.hand_answer.Goals as goal
-use Rattle.do_part.proofs.Stacking.answered-eases
+use Rattle.do_part.proofs.Stacking.{answered-eases}
 use Rattle.std.proofs.Common.{ap, sym, ◌∙◌, arith, refl}
 use Rattle.do_machine.specs.held.Refers.{answer_values}
 use Rattle.do_machine.specs.take.Awaiting.{awaits, stack_answered, with_answer}

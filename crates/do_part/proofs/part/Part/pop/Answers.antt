@@ -1,9 +1,9 @@
 use Rattle.do_part.proofs.part.Part.pop.Goals as goal
-use Rattle.do_part.proofs.Numbering.numbered_eased
+use Rattle.do_part.proofs.Numbering.{numbered_eased, IsEased, eased-pop, eased-same}
 use Rattle.std.proofs.Common.{ap, sym, ◌∙◌, arith, refl, subst}
 use Rattle.do_stack.specs.Uses.{invocation_values}
 use Rattle.do_part.specs.{Names.{values_of, stack_of}, declared.tally.Tally.TheVariants.More}
-use Rattle.do_part.proofs.{Exchanging.stack-cons, Numbering.{IsEased, eased-pop, eased-same}}
+use Rattle.do_part.proofs.Exchanging.{stack-cons}
 use Rattle.do_part.proofs.Rest.{entries_kept, numbers_gone, own_stack, room_kept}
 use Rattle.do_part.proofs.{Tallying.tallied-none, Turning.{stack_go, sound_moved, sound_stacked}}
 

@@ -1,5 +1,5 @@
 use Rattle.do_part.proofs.part.Part.push.Goals as goal
-use Rattle.do_part.proofs.Tallying.tallied-none
+use Rattle.do_part.proofs.Tallying.{tallied-none}
 use Rattle.std.proofs.Common.{◌∷◌, ap, arith, refl}
 use Rattle.do_stack.specs.Uses.{invocation_values}
 use Rattle.do_part.specs.Names.{values_of, sizes_of, stack_of}

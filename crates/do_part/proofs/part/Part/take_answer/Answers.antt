@@ -1,12 +1,12 @@
 use Rattle.do_part.proofs.part.Part.take_answer.Goals as goal
-use Rattle.do_part.proofs.Numbering.eased-top
+use Rattle.do_part.proofs.Numbering.{eased-top, numbered_eased}
 use Rattle.std.proofs.Common.{ap, sym, arith, refl}
 use Rattle.do_machine.specs.held.Refers.{answer_values}
 use Rattle.do_stack.specs.{Answered.{answer_taken, values_taken}, Waiting.with_top}
 use Rattle.do_part.specs.{Names.{values_of, stack_of}, declared.tally.Tally.TheVariants.More}
 use Rattle.do_part.proofs.Rest.{entries_kept, numbers_gone, own_stack, room_kept}
-use Rattle.do_part.proofs.{Numbering.numbered_eased, Stacking.{taken-eases, taken-moves}}
-use Rattle.do_part.proofs.{Tallying.tallied-none, Turning.{stack_go, sound_moved, sound_stacked}}
+use Rattle.do_part.proofs.{Stacking.{taken-eases, taken-moves}, Tallying.tallied-none}
+use Rattle.do_part.proofs.Turning.{stack_go, sound_moved, sound_stacked}
 
 -- the names in the answer are counted
 pub tally_answer-requires : goal.tally_answer-requires
