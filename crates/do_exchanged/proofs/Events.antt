@@ -54,7 +54,8 @@ module _ (table : List Class) (act : Acting) where
       ]) there ∙ ap (option_map (net_moved port M)) does
 
   -- what stands first in a channel is taken
-  pub takes_so : (N : Net) (port from : ℕ) (pl pf : Place) (c : Channel) (x : Carried) (h : Handled) →
+  pub takes_so : (N : Net) (port from : ℕ) (pl pf : Place) (c : Channel) (x : Carried)
+      (h : Handled) →
       place_at N port ≡ Some pl → can_take from pl.part.own.node ≡ true →
       place_at N from ≡ Some pf → channel_to port pf ≡ Some c → slice_get c.waiting 0 ≡ Some x →
       place_at (change_place from (with_channel port (advanced x)) N) port ≡ Some pl →

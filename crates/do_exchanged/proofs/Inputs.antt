@@ -303,7 +303,8 @@ module _ (table : List Class) (act : Acting) (seats : List Seat) (world : IsWorl
             let lost_shows = sym (same_outcome table act seats world acts before lose starts_now
             (one_more lose))
             ∙ ap (λ (s : NetStepped). s.outcome)
-            (loses_so table act (net before) port from pl sender.0 c there reaches sender.1 stands) in
+            (loses_so table act (net before) port from pl sender.0 c there reaches sender.1
+            stands) in
             let same = same_outcome table act seats world acts now take
             (each_joined StartsSendable now (take ∷ []) starts_now (tt, tt))
             (let k = length-append before (lose ∷ []) in

@@ -126,7 +126,8 @@ module _ {Part : Type 0} (rules : Rules Part) (port : ℕ) where
           starts = good.starts;
         }) small.1 (nothing rules port after.core)
     follows polls (Handed sent ∷ told) good small m = stops (suc turns) s [] unfinished refl
-    follows polls (Listened p ps failed ∷ told) good small m = stops (suc turns) s [] unfinished refl
+    follows polls (Listened p ps failed ∷ told) good small m =
+        stops (suc turns) s [] unfinished refl
     follows ends told good small m = stops (suc turns) s last_line ended refl
 
   -- serving

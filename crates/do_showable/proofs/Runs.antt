@@ -137,7 +137,8 @@ module _ (r : RunContext) (ok : IsNamed r.context.node)
 
   -- the top invocation as it waits
   standing : (pc into : ℕ) (outs : List ℕ) (state : InvState) →
-      AllName is_nameable (state_values state) → IsNamed (with_top r (stands pc into outs state r.top))
+      AllName is_nameable (state_values state) →
+      IsNamed (with_top r (stands pc into outs state r.top))
   standing pc into outs state h =
       topped _ (record { object = top.object; locals = top.locals; answer = h })
 
@@ -215,7 +216,8 @@ module _ (r : RunContext) (ok : IsNamed r.context.node)
   verdict_effect (Asks peer request into outs pc) h k = asks peer request into outs pc
   verdict_effect (Begins o method values into outs pc) h k =
       let it = standing pc into outs Below tt in
-      alone _ (restacked n _ ok (begins is_nameable o method reasons.Local values h.0 h.1, it.calls))
+      alone _ (restacked n _ ok
+      (begins is_nameable o method reasons.Local values h.0 h.1, it.calls))
   verdict_effect (Tells peer m into pc) h k = record {
     named = topped _ (went_on is_nameable into Nil pc r.top (nil is_nameable) top);
     shows = tt;

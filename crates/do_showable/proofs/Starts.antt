@@ -26,7 +26,8 @@ start_named table selector values n plain ok =
     (λ m found. either Starts (not (args_fit m.signature values)) None
     (Some (fresh (own n root) m.id reasons.Start values)) (λ _. tt)
     (λ fit. restacked n _ ok (
-      begins is_nameable (own n root) m.id reasons.Start values (rooted n.root root is ok.roots) plain,
+      begins is_nameable (own n root) m.id reasons.Start values (rooted n.root root is ok.roots)
+          plain,
       ok.calls,
     )))))
   where

@@ -44,7 +44,8 @@ module _ (c : Context) (from : ℕ) (ok : IsNamed c.node)
     r = reading c from packet
 
     -- an object by a test, or nil
-    object_if : (b : Bool) (o : ObjectName) → is_nameable o ≡ true → Names is_nameable (cond b (Obj o) Nil)
+    object_if : (b : Bool) (o : ObjectName) → is_nameable o ≡ true →
+        Names is_nameable (cond b (Obj o) Nil)
     object_if true o h = one is_nameable o h
     object_if false o h = nil is_nameable
 
