@@ -3,11 +3,6 @@ use do_base::{NodeId, Oid, Token};
 use do_class::ClassId;
 use do_import::Imports;
 
-/// Whether there is room for a use and a link more.
-fn has_room(imports: &Imports) -> bool {
-    imports.spare() > 0 && imports.links() > 0
-}
-
 /// Counts an object as received, and tells whether it did: there is room.
 pub(crate) fn got(imports: &mut Imports, oid: Oid, class: ClassId) -> bool {
     if imports.links() == 0 || imports.received(oid) == u64::MAX {
@@ -37,7 +32,7 @@ pub(crate) fn unrefer(imports: &mut Imports, oid: Oid) -> bool {
 
 /// Keeps a lend, and tells its token. None where there is no room.
 pub(crate) fn lend(imports: &mut Imports, oid: Oid, borrower: NodeId) -> Option<Token> {
-    if !has_room(imports) || imports.next_token() >= 1 << 62 {
+    if imports.spare() == 0 || imports.links() == 0 || imports.next_token() >= 1 << 62 {
         return None;
     }
     if imports.uses(oid) == u64::MAX || imports.names(oid) == u64::MAX {
@@ -53,7 +48,7 @@ pub(crate) fn keep_ask(
     class: ClassId,
     token: Token,
 ) -> Option<bool> {
-    if !has_room(imports) || imports.uses(oid) == u64::MAX {
+    if imports.spare() == 0 || imports.links() == 0 || imports.uses(oid) == u64::MAX {
         return None;
     }
     if imports.names(oid) == u64::MAX || imports.asks(oid) == u64::MAX {
