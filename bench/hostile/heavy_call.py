@@ -77,7 +77,7 @@ def keeping(value):
 def heaviest():
     """The heaviest value of such a call: lists of one object, up to the last byte of a payload.
 
-    The node makes room to count the object at each place at which it stands, and takes 1.3 GB.
+    The node makes room to count the object at each place at which it stands, and takes 280 MB.
     """
     room = PAYLOAD - (len(keeping(listed([NIL] * 1_023))) - 1_023 - 5)
     full = listed([NAMED] * 1_024)
